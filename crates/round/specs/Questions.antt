@@ -1,0 +1,114 @@
+-- The questions about one record (document 01, "The questions, in order": 1 to 12).
+use Prim.Native.Nat.{ℕ, zero, suc, _+_, _*_, _-_, _/_, _%_, _^_}
+use mathlib.Core.Bool.{Bool, true, false, cond, _&&_, _||_}
+use mathlib.Core.List.{List, [], _∷_, _++_}
+use lib.Dec.{leb, eqb}
+use lib.ListN.{length, getD}
+use Rattle.round.specs.Lists.{all, apart, sumOf}
+use Rattle.round.specs.Records.{Head, word, headIn, bodyAt, kindAt, lengthAt}
+
+-- a question: its number, and whether its answer is yes
+pub record Question : Type 0 where
+  pub number : ℕ
+  pub answer : Bool
+
+abbrev pub asked : ℕ → Bool → Question
+asked n b = record { number = n; answer = b }
+
+-- the number of the first question whose answer is no; 0 where all are yes
+abbrev pub firstNo : List Question → ℕ
+firstNo [] = 0
+firstNo (q ∷ qs) = cond (q .answer) (firstNo qs) (q .number)
+
+abbrev pub within : ℕ → ℕ → ℕ → Bool
+within low high x = leb low x && leb x high
+
+abbrev pub even : ℕ → Bool
+even x = eqb (x % 2) 0
+
+-- 3: the body lengths that the table allows for a kind
+abbrev pub lengthAllowed : Head → ℕ → ℕ → Bool
+lengthAllowed h kind len =
+    cond (eqb kind 1) (eqb len 8)
+    (cond (eqb kind 2) (eqb len (10 + 10 * h .types))
+    (cond (eqb kind 3) (within 2 34 len && even len) (leb len (2 * h .candidates) && even len)))
+
+-- 1 to 4: what is asked of every record, due with a kind at a byte
+abbrev pub leadQuestions : List ℕ → Head → ℕ → ℕ → List Question
+leadQuestions file h kind start =
+    asked 1 (leb (start + 4) (length file))
+    ∷ asked 2 (eqb (kindAt file start) kind)
+    ∷ asked 3 (lengthAllowed h kind (lengthAt file start))
+    ∷ asked 4 (leb (start + 4 + lengthAt file start) (length file))
+    ∷ []
+
+-- 5: all four numbers of the head are in range
+abbrev pub headQuestions : List ℕ → List Question
+headQuestions body =
+    let h = headIn body in
+    asked 5 (within 1 512 (h .candidates) && (within 1 32 (h .institutes) && (leb (h .types) 8 && leb (h .policy) 1))) ∷ []
+
+-- the positions of a code in an institute's body, and those of them reserved for type t, from 0
+abbrev pub positionsIn : ℕ → List ℕ → ℕ → ℕ
+positionsIn types body code = word body (2 * ((1 + types) * code))
+
+abbrev pub reservedIn : ℕ → List ℕ → ℕ → ℕ → ℕ
+reservedIn types body code t = word body (2 * ((1 + types) * code + (1 + t)))
+
+-- 6 and 7: the positions of all codes, and the reserved ones in each
+abbrev pub instituteQuestions : Head → List ℕ → List Question
+instituteQuestions h body =
+    let positions : ℕ → ℕ = positionsIn (h .types) body in
+    let reserved : ℕ → ℕ → ℕ = reservedIn (h .types) body in
+    asked 6 (leb (sumOf 5 positions) 1024)
+    ∷ asked 7 (all 5 (λ code. leb (sumOf (h .types) (reserved code)) (positions code)))
+    ∷ []
+
+-- the number of entries in a candidate's body; the institute number and the code of entry k, from 0
+abbrev pub entryCount : List ℕ → ℕ
+entryCount body = (length body - 2) / 2
+
+abbrev pub instituteIn : List ℕ → ℕ → ℕ
+instituteIn body k = getD body (2 + 2 * k) 0
+
+abbrev pub codeIn : List ℕ → ℕ → ℕ
+codeIn body k = getD body (3 + 2 * k) 0
+
+-- 8: the code and the marks; 9: each entry; 10: the entries are all different
+abbrev pub candidateQuestions : Head → List ℕ → List Question
+candidateQuestions h body =
+    let own : ℕ = getD body 0 0 in
+    let marks : ℕ = getD body 1 0 in
+    let lawful : ℕ → Bool =
+    λ k. within 1 (h .institutes) (instituteIn body k) && (eqb (codeIn body k) 0 || eqb (codeIn body k) own) in
+    let same : ℕ → ℕ → Bool =
+    λ k l. eqb (instituteIn body k) (instituteIn body l) && eqb (codeIn body k) (codeIn body l) in
+    asked 8 (leb own 4 && leb (suc marks) (2 ^ h .types))
+    ∷ asked 9 (all (entryCount body) lawful)
+    ∷ asked 10 (apart (entryCount body) same)
+    ∷ []
+
+-- the length of a merit list, by its body, and the candidate number at a place, from 0
+abbrev pub meritCount : List ℕ → ℕ
+meritCount body = length body / 2
+
+abbrev pub meritIn : List ℕ → ℕ → ℕ
+meritIn body p = word body (2 * p)
+
+-- 11: each number is a candidate's; 12: they are all different
+abbrev pub meritQuestions : Head → List ℕ → List Question
+meritQuestions h body =
+    asked 11 (all (meritCount body) (λ p. within 1 (h .candidates) (meritIn body p)))
+    ∷ asked 12 (apart (meritCount body) (λ p q. eqb (meritIn body p) (meritIn body q)))
+    ∷ []
+
+-- the questions that go with a kind
+abbrev pub kindQuestions : Head → ℕ → List ℕ → List Question
+kindQuestions h kind body =
+    cond (eqb kind 1) (headQuestions body)
+    (cond (eqb kind 2) (instituteQuestions h body)
+    (cond (eqb kind 3) (candidateQuestions h body) (meritQuestions h body)))
+
+-- all questions about the record that is due with a kind at a byte, in order
+unfoldable pub questionsAt : List ℕ → Head → ℕ → ℕ → List Question
+questionsAt file h kind start = leadQuestions file h kind start ++ kindQuestions h kind (bodyAt file start)

@@ -1,0 +1,67 @@
+-- The records of a file (document 01, "Round file"): where each starts, its body, and the numbers of the head.
+use Prim.Native.Nat.{ℕ, zero, suc, _+_, _*_}
+use mathlib.Core.List.{List, _++_}
+use lib.ListN.{getD, take, drop, replicate}
+
+-- the two-byte number at a place, little-endian
+abbrev pub word : List ℕ → ℕ → ℕ
+word s i = getD s i 0 + 256 * getD s (suc i) 0
+
+-- the lead bytes of the record that starts at a byte: its body length and its kind
+abbrev pub lengthAt : List ℕ → ℕ → ℕ
+lengthAt file start = word file start
+
+abbrev pub kindAt : List ℕ → ℕ → ℕ
+kindAt file start = word file (start + 2)
+
+-- the part of the file that starts behind the four lead bytes of the record that starts at a byte
+abbrev pub bodyAt : List ℕ → ℕ → List ℕ
+bodyAt file start = take (lengthAt file start) (drop (start + 4) file)
+
+-- the first byte after the record that starts at a byte
+abbrev pub nextAt : List ℕ → ℕ → ℕ
+nextAt file start = start + 4 + lengthAt file start
+
+-- the first byte of record k, from 0
+unfoldable pub startOf : List ℕ → ℕ → ℕ
+startOf file zero = 0
+startOf file (suc k) = nextAt file (startOf file k)
+
+-- the body of record k, from 0
+abbrev pub bodyOf : List ℕ → ℕ → List ℕ
+bodyOf file k = bodyAt file (startOf file k)
+
+-- the bytes of record k, from 0, its lead bytes included
+abbrev pub recordOf : List ℕ → ℕ → List ℕ
+recordOf file k = take (4 + lengthAt file (startOf file k)) (drop (startOf file k) file)
+
+-- the head: candidates n, institutes m, horizontal types L, policy
+pub record Head : Type 0 where
+  pub candidates : ℕ
+  pub institutes : ℕ
+  pub types : ℕ
+  pub policy : ℕ
+
+abbrev pub headIn : List ℕ → Head
+headIn body = record { candidates = word body 0; institutes = word body 2; types = word body 4; policy = word body 6 }
+
+abbrev pub headOf : List ℕ → Head
+headOf file = headIn (bodyAt file 0)
+
+-- the kinds of the records that are due after the head: m institutes, n candidates, m merit lists
+abbrev pub dueAfter : Head → List ℕ
+dueAfter h = replicate (h .institutes) 2 ++ (replicate (h .candidates) 3 ++ replicate (h .institutes) 4)
+
+-- the number, from 0, of the record of an institute, a candidate and a merit list, each from 0
+abbrev pub instituteRecord : Head → ℕ → ℕ
+instituteRecord h j = 1 + j
+
+abbrev pub candidateRecord : Head → ℕ → ℕ
+candidateRecord h i = 1 + (h .institutes + i)
+
+abbrev pub meritRecord : Head → ℕ → ℕ
+meritRecord h j = 1 + (h .institutes + (h .candidates + j))
+
+-- how many records a file with this head has
+abbrev pub recordCount : Head → ℕ
+recordCount h = 1 + (h .institutes + (h .candidates + h .institutes))

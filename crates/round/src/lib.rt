@@ -1,0 +1,2 @@
+// What a round file holds, and its reader.
+pub mod entry;
