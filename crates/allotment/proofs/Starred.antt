@@ -1,0 +1,201 @@
+-- The starred rounds of document 01, "Worked rounds": one table of file bytes and what a call on them gives, and one theorem, computed on
+-- the definitions from the bytes to the answer and both areas.
+use Prim.Native.Nat.{ℕ, _-_}
+use mathlib.Core.Path.{_≡_, refl}
+use mathlib.Core.List.{List, [], _∷_, _++_, map}
+use lib.ListN.{length, drop, replicate}
+use Rattle.round.specs.Records.{startOf}
+use Rattle.round.specs.Questions.{questionsAt}
+use Rattle.round.specs.Refusal.{verdict, verdictFrom}
+use Rattle.round.specs.Reading.{stepIn, dereserved, stepsIn, entryIn, candidateIn, instituteFrom, roundOf}
+use Rattle.choice.specs.Use.{holds, oneLess, greatest, useOf}
+use Rattle.choice.specs.Step.{raises, takenBefore, takenForUse, remaining, takenByMerit, taken}
+use Rattle.choice.specs.Choice.{considers, positionsAt, takenAt, vacantAt, advance, advanceAll, nothingDone, choose}
+use Rattle.allotment.specs.Rows.{candidateAt, instituteAt, rankIn}
+use Rattle.allotment.specs.Offers.{placeOn, stepsOn}
+use Rattle.allotment.specs.Process.{Seat, madeTo, chosen, seatBy, seatsAfter, mayOffer, turn, turns, tried, offersMade, seats}
+use Rattle.allotment.specs.Areas.{joined, wordBytes, seatBytes, closingPlace, closingBytes, answerBytes}
+use Rattle.allotment.specs.Outcome.{Outcome, allotted, refused, outcome, answerAfter, workAfter}
+
+abbrev pub Bytes : Type 0
+Bytes = List ℕ
+
+-- the head of file A: 3 candidates, 1 institute, 1 type, policy 1
+abbrev headOfA : Bytes
+headOfA = 0x08 ∷ 0x00 ∷ 0x01 ∷ 0x00 ∷ 0x03 ∷ 0x00 ∷ 0x01 ∷ 0x00 ∷ 0x01 ∷ 0x00 ∷ 0x01 ∷ 0x00 ∷ []
+
+-- the same under policy 0
+abbrev underPolicy0 : Bytes
+underPolicy0 = 0x08 ∷ 0x00 ∷ 0x01 ∷ 0x00 ∷ 0x03 ∷ 0x00 ∷ 0x01 ∷ 0x00 ∷ 0x01 ∷ 0x00 ∷ 0x00 ∷ 0x00 ∷ []
+
+-- its institute: one open position, reserved for type 1, and one OBC position
+abbrev instituteOfA : Bytes
+instituteOfA = 0x14 ∷ 0x00 ∷ 0x02 ∷ 0x00 ∷ 0x01 ∷ 0x00 ∷ 0x01 ∷ 0x00 ∷ 0x00 ∷ 0x00 ∷ 0x00 ∷ 0x00 ∷ 0x00 ∷ 0x00 ∷ 0x00 ∷ 0x00 ∷ 0x01 ∷ 0x00 ∷ 0x00 ∷ 0x00 ∷ 0x00 ∷ 0x00 ∷ 0x00 ∷ 0x00 ∷ []
+
+-- the same with two of the one open position reserved
+abbrev reservedTwo : Bytes
+reservedTwo = 0x14 ∷ 0x00 ∷ 0x02 ∷ 0x00 ∷ 0x01 ∷ 0x00 ∷ 0x02 ∷ 0x00 ∷ 0x00 ∷ 0x00 ∷ 0x00 ∷ 0x00 ∷ 0x00 ∷ 0x00 ∷ 0x00 ∷ 0x00 ∷ 0x01 ∷ 0x00 ∷ 0x00 ∷ 0x00 ∷ 0x00 ∷ 0x00 ∷ 0x00 ∷ 0x00 ∷ []
+
+-- general, no mark, listing open
+abbrev generalOpen : Bytes
+generalOpen = 0x04 ∷ 0x00 ∷ 0x03 ∷ 0x00 ∷ 0x00 ∷ 0x00 ∷ 0x01 ∷ 0x00 ∷ []
+
+-- general, no mark, listing OBC
+abbrev generalObc : Bytes
+generalObc = 0x04 ∷ 0x00 ∷ 0x03 ∷ 0x00 ∷ 0x00 ∷ 0x00 ∷ 0x01 ∷ 0x03 ∷ []
+
+-- OBC, no mark, listing open and OBC
+abbrev obcBoth : Bytes
+obcBoth = 0x06 ∷ 0x00 ∷ 0x03 ∷ 0x00 ∷ 0x03 ∷ 0x00 ∷ 0x01 ∷ 0x00 ∷ 0x01 ∷ 0x03 ∷ []
+
+-- OBC, no mark, listing only open
+abbrev obcOpen : Bytes
+obcOpen = 0x04 ∷ 0x00 ∷ 0x03 ∷ 0x00 ∷ 0x03 ∷ 0x00 ∷ 0x01 ∷ 0x00 ∷ []
+
+-- general, type 1, listing open
+abbrev markedOpen : Bytes
+markedOpen = 0x04 ∷ 0x00 ∷ 0x03 ∷ 0x00 ∷ 0x00 ∷ 0x01 ∷ 0x01 ∷ 0x00 ∷ []
+
+-- the merit list 1, 2, 3
+abbrev meritOfA : Bytes
+meritOfA = 0x06 ∷ 0x00 ∷ 0x04 ∷ 0x00 ∷ 0x01 ∷ 0x00 ∷ 0x02 ∷ 0x00 ∷ 0x03 ∷ 0x00 ∷ []
+
+-- the merit list 1, 2, 2
+abbrev meritTwice : Bytes
+meritTwice = 0x06 ∷ 0x00 ∷ 0x04 ∷ 0x00 ∷ 0x01 ∷ 0x00 ∷ 0x02 ∷ 0x00 ∷ 0x02 ∷ 0x00 ∷ []
+
+-- the merit list 1, 2, 3 without its last byte
+abbrev meritCut : Bytes
+meritCut = 0x06 ∷ 0x00 ∷ 0x04 ∷ 0x00 ∷ 0x01 ∷ 0x00 ∷ 0x02 ∷ 0x00 ∷ 0x03 ∷ []
+
+-- 3 candidates, 1 institute, 2 types, policy 0
+abbrev headOfTypes : Bytes
+headOfTypes = 0x08 ∷ 0x00 ∷ 0x01 ∷ 0x00 ∷ 0x03 ∷ 0x00 ∷ 0x01 ∷ 0x00 ∷ 0x02 ∷ 0x00 ∷ 0x00 ∷ 0x00 ∷ []
+
+-- two open positions, one for type 1 and one for type 2
+abbrev instituteOfTypes : Bytes
+instituteOfTypes = 0x1e ∷ 0x00 ∷ 0x02 ∷ 0x00 ∷ 0x02 ∷ 0x00 ∷ 0x01 ∷ 0x00 ∷ 0x01 ∷ 0x00 ∷ 0x00 ∷ 0x00 ∷ 0x00 ∷ 0x00 ∷ 0x00 ∷ 0x00 ∷ 0x00 ∷ 0x00 ∷ 0x00 ∷ 0x00 ∷ 0x00 ∷ 0x00 ∷ 0x00 ∷ 0x00 ∷ 0x00 ∷ 0x00 ∷ 0x00 ∷ 0x00 ∷ 0x00 ∷ 0x00 ∷ 0x00 ∷ 0x00 ∷ 0x00 ∷ 0x00 ∷ []
+
+-- general, types 1 and 2, listing open
+abbrev bothTypes : Bytes
+bothTypes = 0x04 ∷ 0x00 ∷ 0x03 ∷ 0x00 ∷ 0x00 ∷ 0x03 ∷ 0x01 ∷ 0x00 ∷ []
+
+-- general, type 2, listing open
+abbrev secondType : Bytes
+secondType = 0x04 ∷ 0x00 ∷ 0x03 ∷ 0x00 ∷ 0x00 ∷ 0x02 ∷ 0x01 ∷ 0x00 ∷ []
+
+-- 1 candidate, 1 institute, no type, policy 0
+abbrev headOfOne : Bytes
+headOfOne = 0x08 ∷ 0x00 ∷ 0x01 ∷ 0x00 ∷ 0x01 ∷ 0x00 ∷ 0x01 ∷ 0x00 ∷ 0x00 ∷ 0x00 ∷ 0x00 ∷ 0x00 ∷ []
+
+-- one open position
+abbrev oneOpen : Bytes
+oneOpen = 0x0a ∷ 0x00 ∷ 0x02 ∷ 0x00 ∷ 0x01 ∷ 0x00 ∷ 0x00 ∷ 0x00 ∷ 0x00 ∷ 0x00 ∷ 0x00 ∷ 0x00 ∷ 0x00 ∷ 0x00 ∷ []
+
+-- no positions
+abbrev noPositions : Bytes
+noPositions = 0x0a ∷ 0x00 ∷ 0x02 ∷ 0x00 ∷ 0x00 ∷ 0x00 ∷ 0x00 ∷ 0x00 ∷ 0x00 ∷ 0x00 ∷ 0x00 ∷ 0x00 ∷ 0x00 ∷ 0x00 ∷ []
+
+-- general, no mark, listing nothing
+abbrev emptyRow : Bytes
+emptyRow = 0x02 ∷ 0x00 ∷ 0x03 ∷ 0x00 ∷ 0x00 ∷ 0x00 ∷ []
+
+-- the merit list 1
+abbrev meritOfOne : Bytes
+meritOfOne = 0x02 ∷ 0x00 ∷ 0x04 ∷ 0x00 ∷ 0x01 ∷ 0x00 ∷ []
+
+-- the empty merit list
+abbrev meritOfNone : Bytes
+meritOfNone = 0x00 ∷ 0x00 ∷ 0x04 ∷ 0x00 ∷ []
+
+-- a call on a file, or what the document says of one: the answer, and both areas afterwards
+pub record Call : Type 0 where
+  pub answer : Outcome
+  pub answerArea : Bytes
+  pub workArea : Bytes
+
+-- both areas are lent full of this byte, with room to spare
+abbrev pub lent : ℕ → Bytes
+lent size = replicate size 0xff
+
+unfoldable pub called : Bytes → Call
+called file = record {
+  answer = outcome file 24 32;
+  answerArea = answerAfter file (lent 24) (lent 32);
+  workArea = workAfter file (lent 24) (lent 32);
+}
+
+abbrev seat : ℕ → ℕ → Bytes
+seat institute step = institute ∷ step ∷ []
+
+abbrev overwritten : Bytes → ℕ → Bytes
+overwritten bytes size = bytes ++ drop (length bytes) (lent size)
+
+-- allotted: so many offers, each candidate's seat, the one institute's closing places; 8 work bytes a candidate are 0
+abbrev allots : ℕ → List Bytes → List ℕ → Call
+allots offers list closing = record {
+  answer = allotted offers;
+  answerArea = overwritten (joined list ++ joined (map wordBytes closing)) 24;
+  workArea = overwritten (joined (map (λ s. replicate 8 0) list)) 32;
+}
+
+-- refused: the number and the byte; both areas stay
+abbrev refuses : ℕ → ℕ → Call
+refuses number offset = record { answer = refused number offset; answerArea = lent 24; workArea = lent 32 }
+
+pub record Case : Type 0 where
+  pub file : Bytes
+  pub expected : Call
+
+abbrev shows : List Bytes → Call → Case
+shows records expected = record { file = joined records; expected = expected }
+
+abbrev table : List Case
+table =
+    -- A
+    shows (headOfA ∷ instituteOfA ∷ generalOpen ∷ obcBoth ∷ markedOpen ∷ meritOfA ∷ []) (allots 4 (seat 0 0 ∷ seat 1 4 ∷ seat 1 1 ∷ []) (3 ∷ 0 ∷ 0 ∷ 2 ∷ 0 ∷ 0 ∷ []))
+    ∷
+    -- A with candidate 2 listing only open
+    shows (headOfA ∷ instituteOfA ∷ generalOpen ∷ obcOpen ∷ markedOpen ∷ meritOfA ∷ []) (allots 3 (seat 1 6 ∷ seat 0 0 ∷ seat 1 1 ∷ []) (3 ∷ 0 ∷ 0 ∷ 0 ∷ 0 ∷ 1 ∷ []))
+    ∷
+    -- the same under policy 0
+    shows (underPolicy0 ∷ instituteOfA ∷ generalOpen ∷ obcOpen ∷ markedOpen ∷ meritOfA ∷ []) (allots 3 (seat 0 0 ∷ seat 0 0 ∷ seat 1 1 ∷ []) (3 ∷ 0 ∷ 0 ∷ 0 ∷ 0 ∷ 0 ∷ []))
+    ∷
+    -- open 2, one position each for types 1 and 2; merit 1, 2, 3 with types {1,2}, {1}, {2}
+    shows (headOfTypes ∷ instituteOfTypes ∷ bothTypes ∷ markedOpen ∷ secondType ∷ meritOfA ∷ []) (allots 3 (seat 1 1 ∷ seat 1 1 ∷ seat 0 0 ∷ []) (2 ∷ 0 ∷ 0 ∷ 0 ∷ 0 ∷ 0 ∷ []))
+    ∷
+    -- one candidate with an empty row
+    shows (headOfOne ∷ oneOpen ∷ emptyRow ∷ meritOfOne ∷ []) (allots 0 (seat 0 0 ∷ []) (0 ∷ 0 ∷ 0 ∷ 0 ∷ 0 ∷ 0 ∷ []))
+    ∷
+    -- one candidate listing open, no positions
+    shows (headOfOne ∷ noPositions ∷ generalOpen ∷ meritOfOne ∷ []) (allots 1 (seat 0 0 ∷ []) (0 ∷ 0 ∷ 0 ∷ 0 ∷ 0 ∷ 0 ∷ []))
+    ∷
+    -- one candidate listing open, absent from the merit list, one open position
+    shows (headOfOne ∷ oneOpen ∷ generalOpen ∷ meritOfNone ∷ []) (allots 1 (seat 0 0 ∷ []) (0 ∷ 0 ∷ 0 ∷ 0 ∷ 0 ∷ 0 ∷ []))
+    ∷
+    -- the empty file
+    shows ([]) (refuses 1 0)
+    ∷
+    -- A cut to 71 bytes
+    shows (headOfA ∷ instituteOfA ∷ generalOpen ∷ obcBoth ∷ markedOpen ∷ meritCut ∷ []) (refuses 4 62)
+    ∷
+    -- A with one byte more
+    shows (headOfA ∷ instituteOfA ∷ generalOpen ∷ obcBoth ∷ markedOpen ∷ meritOfA ∷ (0 ∷ []) ∷ []) (refuses 13 72)
+    ∷
+    -- A, open reserved 2 of 1
+    shows (headOfA ∷ reservedTwo ∷ generalOpen ∷ obcBoth ∷ markedOpen ∷ meritOfA ∷ []) (refuses 7 12)
+    ∷
+    -- A, candidate 1 listing 1 3
+    shows (headOfA ∷ instituteOfA ∷ generalObc ∷ obcBoth ∷ markedOpen ∷ meritOfA ∷ []) (refuses 9 36)
+    ∷
+    -- A, last merit number 2
+    shows (headOfA ∷ instituteOfA ∷ generalOpen ∷ obcBoth ∷ markedOpen ∷ meritTwice ∷ []) (refuses 12 62)
+    ∷
+    -- both
+    shows (headOfA ∷ instituteOfA ∷ generalObc ∷ obcBoth ∷ markedOpen ∷ meritTwice ∷ []) (refuses 9 36)
+    ∷
+    []
+
+pub starred : map (λ c. called (c .file)) table ≡ map (λ c. c .expected) table
+unfolding called startOf questionsAt verdict verdictFrom stepIn dereserved stepsIn entryIn candidateIn instituteFrom roundOf holds oneLess greatest useOf raises takenBefore takenForUse remaining takenByMerit taken considers positionsAt takenAt vacantAt advance advanceAll nothingDone choose candidateAt instituteAt rankIn placeOn stepsOn madeTo chosen seatBy seatsAfter mayOffer turn turns tried offersMade seats closingPlace closingBytes answerBytes outcome answerAfter workAfter
+starred = refl

@@ -1,0 +1,20 @@
+-- The promise of the public call: demands 1, 2 and 3 of the letter, for every input.
+use mathlib.Core.Path.{_≡_}
+use Prim.Native.Nat.{ℕ}
+use mathlib.Core.List.{List}
+use lib.ListN.{length}
+use Rattle.round.specs.Reading.{roundOf}
+use Rattle.allotment.specs.declared.Answer.{Answer}
+use Rattle.allotment.specs.Process.{candidateCount}
+use Rattle.allotment.specs.Areas.{seatsIn}
+use Rattle.allotment.specs.Outcome.{outcomeOf, outcome, answerAfter, workAfter, Accepted}
+use Rattle.allotment.specs.Truthful.{Truthful}
+use Rattle.allotment.specs.Stable.{Stable}
+
+-- of a call on a file with both lent areas: its answer, and what stands in the areas afterwards
+pub record Promise (file answer work : List ℕ) (result : Answer) (answerNow workNow : List ℕ) : Type 0 where
+  pub answered : outcomeOf result ≡ outcome file (length answer) (length work)
+  pub answerArea : answerNow ≡ answerAfter file answer work
+  pub workArea : workNow ≡ workAfter file answer work
+  pub truthful : Accepted file answer work → Truthful file answerNow
+  pub stable : Accepted file answer work → Stable (roundOf file) (seatsIn (candidateCount (roundOf file)) answerNow)

@@ -1,0 +1,49 @@
+-- Candidates and institutes of a round by their place in the file, from 0, and where an entry stands in a row.
+use Prim.Native.Nat.{ℕ, suc, _-_}
+use mathlib.Core.Bool.{Bool, cond, _&&_}
+use mathlib.Core.List.{List, [], _∷_}
+use lib.Dec.{eqb}
+use lib.ListN.{length, getD}
+use Rattle.round.specs.declared.entry.Category.{Category}
+use Rattle.round.specs.declared.entry.Category.the-variants.{Open}
+use Rattle.round.specs.declared.entry.Entry.{Entry}
+use Rattle.round.specs.Category.{codeOf}
+use Rattle.round.specs.Round.{StepRule, Institute, Candidate, Round}
+
+-- what stands past the end of a list of candidates, of institutes and of steps
+abbrev pub nobody : Candidate
+nobody = record { category = Open; marks = 0; row = [] }
+
+abbrev pub nowhere : Institute
+nowhere = record { steps = []; merit = [] }
+
+abbrev pub noStep : StepRule
+noStep = record { category = Open; own = 0; reserved = []; receiver = 0 }
+
+unfoldable pub candidateAt : Round → ℕ → Candidate
+candidateAt r i = getD (r .candidates) i nobody
+
+unfoldable pub instituteAt : Round → ℕ → Institute
+instituteAt r j = getD (r .institutes) j nowhere
+
+abbrev pub rowAt : Round → ℕ → List Entry
+rowAt r i = candidateAt r i .row
+
+-- the entry of institute j, from 0, with a category
+abbrev pub entryOf : ℕ → Category → Entry
+entryOf j c = record { institute = suc j; category = c }
+
+abbrev pub sameCategory : Category → Category → Bool
+sameCategory c d = eqb (codeOf c) (codeOf d)
+
+abbrev pub sameEntry : Entry → Entry → Bool
+sameEntry e f = eqb (e .institute) (f .institute) && sameCategory (e .category) (f .category)
+
+-- the place of an entry in a row, from 0; the row's length where the row has it not
+unfoldable pub rankIn : List Entry → Entry → ℕ
+rankIn [] e = 0
+rankIn (x ∷ xs) e = let later = suc (rankIn xs e) in cond (sameEntry x e) 0 later
+
+-- the category of step k, from 1, of institute j
+abbrev pub categoryAt : Round → ℕ → ℕ → Category
+categoryAt r j k = getD (instituteAt r j .steps) (k - 1) noStep .category

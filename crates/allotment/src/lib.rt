@@ -1,0 +1,7 @@
+// The allotment of a round.
+
+// The answer of a call: the number of offers, or the number of the refusal with its byte.
+pub enum Answer {
+    Allotted(usize),
+    Refused { number: usize, offset: usize },
+}
