@@ -1,0 +1,1 @@
+// The allotment of a round.
