@@ -1,2 +1,4 @@
 pub mod Sums
 pub mod Market
+pub mod Rows
+pub mod Reached
