@@ -2,3 +2,4 @@ pub mod Sums
 pub mod Market
 pub mod Rows
 pub mod Reached
+pub mod Least
