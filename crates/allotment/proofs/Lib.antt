@@ -3,3 +3,4 @@ pub mod Market
 pub mod Rows
 pub mod Reached
 pub mod Least
+pub mod Alone
