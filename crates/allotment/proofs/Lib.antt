@@ -4,3 +4,4 @@ pub mod Rows
 pub mod Reached
 pub mod Least
 pub mod Alone
+pub mod AnyOrder
