@@ -5,3 +5,4 @@ pub mod Reached
 pub mod Least
 pub mod Alone
 pub mod AnyOrder
+pub mod Between
