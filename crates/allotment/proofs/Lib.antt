@@ -6,3 +6,4 @@ pub mod Least
 pub mod Alone
 pub mod AnyOrder
 pub mod Between
+pub mod Final
