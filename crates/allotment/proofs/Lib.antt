@@ -7,3 +7,4 @@ pub mod Alone
 pub mod AnyOrder
 pub mod Between
 pub mod Final
+pub mod Stable

@@ -1,0 +1,43 @@
+-- Offers of which none stands below its candidate's seat were all tried, so with the seats they are chosen as the seats alone.
+use mathlib.Core.Path.{_≡_, refl, sym, _∙_}
+use mathlib.Core.Bool.{Bool, true, false, _||_}
+use mathlib.Core.Logic.{_⊎_, inl, inr}
+use Prim.Native.Nat.{ℕ, suc, _≤_, _<_}
+use native.Mathlib.Omega.{arith}
+use Rattle.allotment.proofs.Market.{Offers, _⊆_, Market, Held, Unheld, held-or-not}
+use Rattle.allotment.proofs.Rows.{Row, Rows, State, offers, offered, tried}
+use Rattle.allotment.proofs.Reached.{Closed}
+use Rattle.allotment.proofs.Between.{between}
+
+infixl 60 _∪_
+abbrev pub _∪_ : Offers → Offers → Offers
+(O ∪ P) i e = O i e || P i e
+
+-- listed offers of candidates, none below a seat of its candidate in X
+pub record NoneBelow (n : ℕ) (rows : Rows) (X Z : Offers) : Type 0 where
+  pub listed : (i e : ℕ) → Z i e ≡ true → (i < n) × (rows i .rank e < rows i .len)
+  pub above : (i e d : ℕ) → Z i e ≡ true → X i d ≡ true → rows i .rank e ≤ rows i .rank d
+
+or-case : (a b : Bool) → (a || b) ≡ true → (a ≡ true) ⊎ (b ≡ true)
+or-case true b p = inl p
+or-case false b p = inr p
+
+or-right : (a b : Bool) → b ≡ true → (a || b) ≡ true
+or-right true b p = refl
+or-right false b p = p
+
+module _ {n K : ℕ} {Ch : Offers → Offers} (M : Market n K Ch) {rows : Rows} {t : State} (c : Closed n Ch rows t) (Z : Offers)
+    (h : NoneBelow n rows (Ch (offers rows t)) Z) where
+  pub tried-all : Z ⊆ offers rows t
+  tried-all i e z = go (c .served i (h .listed i e z .0))
+    where
+      go : Held Ch (offers rows t) i ⊎ (t i ≡ rows i .len) → offers rows t i e ≡ true
+      go (inl (d, q)) = offered rows t i e (omega (arith, h .above i e d z q, tried rows t i d (M .within (offers rows t) i d q)))
+      go (inr q) = offered rows t i e (omega (arith, h .listed i e z))
+
+  pub stable : (i e : ℕ) → Ch (Z ∪ Ch (offers rows t)) i e ≡ Ch (offers rows t) i e
+  stable = between M (offers rows t) (Z ∪ Ch (offers rows t)) (λ i e q. or-right (Z i e) (Ch (offers rows t) i e) q) (λ i e q. go i e (or-case (Z i e) (Ch (offers rows t) i e) q))
+    where
+      go : (i e : ℕ) → (Z i e ≡ true) ⊎ (Ch (offers rows t) i e ≡ true) → offers rows t i e ≡ true
+      go i e (inl z) = tried-all i e z
+      go i e (inr q) = M .within (offers rows t) i e q
