@@ -8,3 +8,4 @@ pub mod AnyOrder
 pub mod Between
 pub mod Final
 pub mod Stable
+pub mod Single
