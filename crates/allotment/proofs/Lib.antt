@@ -9,3 +9,4 @@ pub mod Between
 pub mod Final
 pub mod Stable
 pub mod Single
+pub mod Cut
