@@ -10,3 +10,4 @@ pub mod Final
 pub mod Stable
 pub mod Single
 pub mod Cut
+pub mod Rejected
