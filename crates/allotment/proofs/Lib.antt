@@ -11,3 +11,4 @@ pub mod Stable
 pub mod Single
 pub mod Cut
 pub mod Rejected
+pub mod Truthful
