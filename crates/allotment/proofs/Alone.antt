@@ -1,12 +1,14 @@
 -- One at a time: in a reached state nobody holds anything but the entry tried last.
 use mathlib.Core.Path.{_≡_, sym, _∙_}
 use mathlib.Core.Bool.{true}
-use Prim.Native.Nat.{ℕ, suc, _≤_, _<_}
+use mathlib.Core.Logic.{_≢_}
+use Prim.Native.Nat.{ℕ, suc, _<_}
 use native.Mathlib.Omega.{arith}
-use Rattle.allotment.proofs.Sums.{clash}
+use Rattle.allotment.proofs.Tests.{clash}
 use Rattle.allotment.proofs.Market.{Offers, Market, kept}
-use Rattle.allotment.proofs.Rows.{Row, Ranked, Rows, State, offers, offered, tried, offers-le, one-entry, split-at}
-use Rattle.allotment.proofs.Reached.{Turned, Reached, start, step, turned-le, reached-fits}
+use Rattle.allotment.proofs.Update.{split-at}
+use Rattle.allotment.proofs.Rows.{Ranked, Rows, State, offers, offered, tried, offers-le, one-entry}
+use Rattle.allotment.proofs.Reached.{Reached, start, step, turned-le, reached-fits}
 
 module _ {n K : ℕ} {Ch : Offers → Offers} (M : Market n K Ch) {rows : Rows} where
   pub alone : {t : State} → Reached n Ch rows t → (i e : ℕ) → Ch (offers rows t) i e ≡ true → suc (rows i .rank e) ≡ t i
@@ -26,7 +28,7 @@ module _ {n K : ℕ} {Ch : Offers → Offers} (M : Market n K Ch) {rows : Rows} 
           omega (arith, last k q)
 
       elsewhere : ((i : ℕ) → Ch (offers rows t) i e ≡ true → suc (rows i .rank e) ≡ t i)
-          → (i : ℕ) → (i ≡ k → ⊥) → Ch (offers rows u) i e ≡ true → suc (rows i .rank e) ≡ u i
+          → (i : ℕ) → i ≢ k → Ch (offers rows u) i e ≡ true → suc (rows i .rank e) ≡ u i
       elsewhere was i d q =
           let p : u i ≡ t i = s .elsewhere i d in
           was i (before i q (omega (arith, last i q))) ∙ sym p

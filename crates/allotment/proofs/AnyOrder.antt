@@ -1,11 +1,11 @@
 -- Turns in any order end at the same state, after the same number of turns.
-use mathlib.Core.Path.{_≡_, refl, sym, _∙_, ap}
-use Prim.Native.Nat.{ℕ, suc, _≤_, _<_}
+use mathlib.Core.Path.{_≡_, sym, _∙_, ap}
+use Prim.Native.Nat.{ℕ, suc}
 use native.Mathlib.Omega.{arith}
 use Rattle.allotment.proofs.Sums.{sum, sum-same, sum-zero}
 use Rattle.allotment.proofs.Market.{Offers, Market}
 use Rattle.allotment.proofs.Rows.{Rows, State}
-use Rattle.allotment.proofs.Reached.{Reached, start, step, Closed, Final, turned-sum}
+use Rattle.allotment.proofs.Reached.{Reached, start, step, Final, turned-sum}
 use Rattle.allotment.proofs.Least.{least}
 
 unfoldable pub turns : {n : ℕ} {Ch : Offers → Offers} {rows : Rows} {t : State} → Reached n Ch rows t → ℕ

@@ -1,13 +1,14 @@
 -- Any offers between what is held and what was offered give the same seats.
 use mathlib.Core.Path.{_≡_, refl, sym, _∙_, ap, subst}
 use mathlib.Core.Bool.{Bool, true, false}
-use mathlib.Core.Logic.{_⊎_, inl, inr}
-use Prim.Native.Nat.{ℕ, suc, _≤_, _<_}
+use mathlib.Core.Logic.{_⊎_, inl, inr, _≢_}
+use Prim.Native.Nat.{ℕ, _<_}
 use native.Mathlib.Omega.{arith}
 use native.Mathlib.Decide.{decLt}
-use Rattle.allotment.proofs.Sums.{clash}
-use Rattle.allotment.proofs.Market.{Offers, _⊆_, Market, kept, total, total-lt}
-use Rattle.allotment.proofs.Rows.{Row, Ranked, Rows, State, offers, offered, tried, offers-le, split-at}
+use Rattle.allotment.proofs.Tests.{clash}
+use Rattle.allotment.proofs.Market.{Offers, _⊆_, Market, kept, total-lt}
+use Rattle.allotment.proofs.Update.{split-at}
+use Rattle.allotment.proofs.Rows.{Ranked, Rows, State, offers, offered, tried, offers-le}
 use Rattle.allotment.proofs.Reached.{Turned, turned-le}
 
 module _ {n K : ℕ} {Ch : Offers → Offers} (M : Market n K Ch) where
@@ -44,7 +45,7 @@ module _ {n K : ℕ} {Ch : Offers → Offers} (M : Market n K Ch) where
                   subst (λ x. X i x ≡ true) (ap (rows i .entry) (sym p) ∙ z) b
             ]
 
-        elsewhere : (j : ℕ) → (j ≡ i → ⊥) → Ch (offers rows u) j e ≡ true → X j e ≡ true
+        elsewhere : (j : ℕ) → j ≢ i → Ch (offers rows u) j e ≡ true → X j e ≡ true
         elsewhere j d q = old j q (omega (arith, last j q, s .elsewhere j d))
 
     -- what is held and the entry just tried suffice

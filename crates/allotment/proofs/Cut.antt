@@ -1,13 +1,14 @@
 -- A row cut behind one of its entries: whoever holds something at the end with the cut row holds something as good with the whole row.
-use mathlib.Core.Path.{_≡_, refl, sym, _∙_, ap, subst, fun-ext}
+use mathlib.Core.Path.{_≡_, ap, subst, fun-ext}
 use mathlib.Core.Bool.{true}
-use mathlib.Core.Logic.{_⊎_, inl, inr}
+use mathlib.Core.Logic.{_⊎_, inl, inr, _≢_}
 use Prim.Native.Nat.{ℕ, suc, _≤_, _<_}
 use native.Mathlib.Omega.{arith}
 use native.Mathlib.Decide.{decLe}
 use lib.Dec.{ltb}
-use Rattle.allotment.proofs.Market.{Offers, _⊆_, Market, Held, Unheld, kept}
-use Rattle.allotment.proofs.Rows.{Row, Rows, State, offers, offered, tried, offers-le, put, put-here, put-elsewhere, split-at}
+use Rattle.allotment.proofs.Market.{Offers, _⊆_, Market, Held, kept}
+use Rattle.allotment.proofs.Update.{put, put-here, put-elsewhere, split-at}
+use Rattle.allotment.proofs.Rows.{Row, Rows, State, offers, offered, tried, offers-le}
 use Rattle.allotment.proofs.Reached.{Closed, Final}
 use Rattle.allotment.proofs.Least.{least}
 use Rattle.allotment.proofs.Alone.{alone}
@@ -35,7 +36,7 @@ module _ (rows : Rows) (i p : ℕ) where
   unfolding cut
   cut-len = ap (λ r. r .len) (put-here i (cut (rows i) p) rows)
 
-  len-elsewhere : (j : ℕ) → (j ≡ i → ⊥) → cutAt rows i p j .len ≡ rows j .len
+  len-elsewhere : (j : ℕ) → j ≢ i → cutAt rows i p j .len ≡ rows j .len
   len-elsewhere j d = ap (λ r. r .len) (put-elsewhere i (cut (rows i) p) rows j d)
 
   cut-offers : (t : State) → offers (cutAt rows i p) t ≡ offers rows t
@@ -59,7 +60,7 @@ module _ {n K : ℕ} {Ch : Offers → Offers} (M : Market n K Ch) (rows : Rows) 
             (λ j d l. go j d (c .served j l));
       }
     where
-      go : (j : ℕ) → (j ≡ i → ⊥) → Held Ch (offers (cutAt rows i p) t) j ⊎ (t j ≡ cutAt rows i p j .len) → Held Ch (offers rows t) j ⊎ (t j ≡ rows j .len)
+      go : (j : ℕ) → j ≢ i → Held Ch (offers (cutAt rows i p) t) j ⊎ (t j ≡ cutAt rows i p j .len) → Held Ch (offers rows t) j ⊎ (t j ≡ rows j .len)
       go j d (inl q) = inl (whole-held t j q)
       go j d (inr q) = inr (omega (arith, len-elsewhere rows i p j d))
 

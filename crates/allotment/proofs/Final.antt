@@ -6,8 +6,8 @@ use native.Mathlib.Omega.{arith}
 use native.Mathlib.Decide.{decLt, ℕ-discrete}
 use Rattle.allotment.proofs.Sums.{sum, sum-le}
 use Rattle.allotment.proofs.Market.{Offers, Market, Held, Unheld, held-or-not}
-use Rattle.allotment.proofs.Rows.{Row, Rows, State, offers}
-use Rattle.allotment.proofs.Reached.{Turned, Reached, start, step, Closed, Final, turn, turn-turned, turned-sum, reached-fits}
+use Rattle.allotment.proofs.Rows.{Rows, State, offers}
+use Rattle.allotment.proofs.Reached.{Reached, start, step, Final, turn, turn-turned, turned-sum, reached-fits}
 
 module _ {n K : ℕ} {Ch : Offers → Offers} (M : Market n K Ch) (rows : Rows) where
   -- i has a turn, or is served

@@ -1,14 +1,14 @@
 -- Every reached state is below every closed one.
 use mathlib.Core.Path.{_≡_}
-use mathlib.Core.Bool.{true}
 use mathlib.Core.Logic.{_⊎_, inl, inr}
-use Prim.Native.Nat.{ℕ, suc, _≤_, _<_}
+use Prim.Native.Nat.{ℕ, _≤_, _<_}
 use native.Mathlib.Nat.{lt-of-not-le}
 use native.Mathlib.Omega.{arith}
-use Rattle.allotment.proofs.Sums.{clash}
+use Rattle.allotment.proofs.Tests.{clash}
 use Rattle.allotment.proofs.Market.{Offers, Market, Held, Unheld, kept}
-use Rattle.allotment.proofs.Rows.{Row, Rows, State, offers, offered, tried, offers-le, split-at}
-use Rattle.allotment.proofs.Reached.{Turned, Reached, start, step, Closed}
+use Rattle.allotment.proofs.Update.{split-at}
+use Rattle.allotment.proofs.Rows.{Rows, State, offers, offered, tried, offers-le}
+use Rattle.allotment.proofs.Reached.{Reached, start, step, Closed}
 
 module _ {n K : ℕ} {Ch : Offers → Offers} (M : Market n K Ch) {rows : Rows} where
   -- below a closed state nobody who has a turn has tried as much as there

@@ -1,5 +1,7 @@
+pub mod Tests
 pub mod Sums
 pub mod Market
+pub mod Update
 pub mod Rows
 pub mod Reached
 pub mod Least

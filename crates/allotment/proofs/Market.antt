@@ -1,11 +1,10 @@
 -- A market: candidates, entries, and all institutes' choice together, by its laws alone.
-use mathlib.Core.Path.{_≡_, refl, _∙_, ap}
+use mathlib.Core.Path.{_≡_, refl}
 use mathlib.Core.Bool.{Bool, true, false}
-use Prim.Native.Nat.{ℕ, zero, suc, _≤_, _<_}
-use native.Mathlib.Omega.{arith}
 use mathlib.Core.Logic.{_⊎_, inl, inr}
-use native.Mathlib.Decide.{ℕ-discrete}
-use Rattle.allotment.proofs.Sums.{sum, count, clash, is-false, sum-lt, count-le, count-lt}
+use Prim.Native.Nat.{ℕ, _≤_, _<_}
+use Rattle.allotment.proofs.Tests.{clash, is-false, some-below}
+use Rattle.allotment.proofs.Sums.{sum, count, sum-lt, count-le, count-lt}
 
 infix 40 _⊆_
 -- candidate i offers itself under entry e
@@ -34,16 +33,6 @@ pub total-lt : (n K : ℕ) (A B : Offers) → A ⊆ B → (i e : ℕ) → i < n 
 unfolding total
 total-lt n K A B s i e hi he p q =
     sum-lt n (λ j. count K (A j)) (λ j. count K (B j)) (λ j l. count-le K (A j) (B j) (s j)) i hi (count-lt K (A i) (B i) (s i) e he p q)
-
-some-below : (k : ℕ) (f : ℕ → Bool) → ((e : ℕ) × (f e ≡ true)) ⊎ ((e : ℕ) → e < k → f e ≡ false)
-some-below zero f = inr (λ e l. absurd (omega arith))
-some-below (suc k) f = go (f k) refl (some-below k f)
-  where
-    go : (b : Bool) → f k ≡ b → ((e : ℕ) × (f e ≡ true)) ⊎ ((e : ℕ) → e < k → f e ≡ false)
-        → ((e : ℕ) × (f e ≡ true)) ⊎ ((e : ℕ) → e < suc k → f e ≡ false)
-    go true t r = inl (k, t)
-    go false t (inl h) = inl h
-    go false t (inr h) = inr (λ e l. elim (ℕ-discrete e k) [ yes p ↦ ap f p ∙ t | no d ↦ h e (omega arith) ])
 
 module _ {n K : ℕ} {Ch : Offers → Offers} (M : Market n K Ch) where
   -- (S) the other way round: what the larger set keeps the smaller keeps

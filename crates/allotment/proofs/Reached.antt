@@ -1,20 +1,20 @@
 -- States that turns lead to: a candidate held nowhere tries the next entry of the row. Closed: nobody has a turn left.
-use mathlib.Core.Path.{_≡_, refl, _∙_}
-use mathlib.Core.Bool.{Bool, true, false}
-use mathlib.Core.Logic.{_⊎_, inl, inr}
+use mathlib.Core.Path.{_≡_, _∙_}
+use mathlib.Core.Logic.{_⊎_, _≢_}
 use mathlib.Core.List.{List}
-use Prim.Native.Nat.{ℕ, zero, suc, _≤_, _<_}
+use Prim.Native.Nat.{ℕ, suc, _≤_, _<_}
 use native.Mathlib.Omega.{arith}
 use lib.ListN.{length, getD, set}
 use lib.Seq.{getD-set-same, getD-set-other}
 use Rattle.allotment.proofs.Sums.{sum, sum-suc}
 use Rattle.allotment.proofs.Market.{Offers, Held, Unheld}
-use Rattle.allotment.proofs.Rows.{Row, Rows, State, offers, offers-le, put, put-here, put-elsewhere, split-at}
+use Rattle.allotment.proofs.Update.{put, put-here, put-elsewhere, split-at}
+use Rattle.allotment.proofs.Rows.{Rows, State, offers}
 
 -- u is t with one more entry tried by i
 pub record Turned (i : ℕ) (t u : State) : Type 0 where
   pub here : u i ≡ suc (t i)
-  pub elsewhere : (j : ℕ) → (j ≡ i → ⊥) → u j ≡ t j
+  pub elsewhere : (j : ℕ) → j ≢ i → u j ≡ t j
 
 pub data Reached (n : ℕ) (Ch : Offers → Offers) (rows : Rows) : State → Type 0 where
   start : {t : State} → ((i : ℕ) → t i ≡ 0) → Reached n Ch rows t

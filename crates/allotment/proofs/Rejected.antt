@@ -1,12 +1,14 @@
 -- What a candidate tried in vain, to end with nothing, she gets by no other row.
 use mathlib.Core.Path.{_≡_, sym, _∙_}
 use mathlib.Core.Bool.{true}
-use mathlib.Core.Logic.{_⊎_, inl, inr}
+use mathlib.Core.Logic.{_⊎_, inl, inr, _≢_}
 use Prim.Native.Nat.{ℕ, _≤_, _<_}
 use native.Mathlib.Omega.{arith}
-use Rattle.allotment.proofs.Sums.{clash, count, sum-lt, count-none, count-one, count-some}
+use Rattle.allotment.proofs.Tests.{clash}
+use Rattle.allotment.proofs.Sums.{count, sum-lt, count-none, count-one, count-some}
 use Rattle.allotment.proofs.Market.{Offers, Market, Held, Unheld, kept, held-or-not, total}
-use Rattle.allotment.proofs.Rows.{Row, Ranked, Rows, State, offers, offered, tried, offers-le, put, put-here, put-elsewhere, split-at}
+use Rattle.allotment.proofs.Update.{put, put-here, put-elsewhere, split-at}
+use Rattle.allotment.proofs.Rows.{Ranked, Rows, State, offers, offered, tried, offers-le}
 use Rattle.allotment.proofs.Reached.{Closed, Final}
 use Rattle.allotment.proofs.Least.{least}
 use Rattle.allotment.proofs.Alone.{one-held}
@@ -39,7 +41,7 @@ module _ {n K : ℕ} {Ch : Offers → Offers} (M : Market n K Ch) where
           let o : rows j .rank e < u j = tried rows u j e (M .within (offers rows u) j e q) in
           (e, kept M (offers rows t) (offers rows u) j e (offers-le rows t u b) (offered rows t j e (omega (arith, d .fits j))) q)
 
-  module _ {rows others : Rows} {t v : State} (i y : ℕ) (ranked : (j : ℕ) → j < n → (j ≡ i → ⊥) → Ranked (rows j)) (same : Alike i others rows)
+  module _ {rows others : Rows} {t v : State} (i y : ℕ) (ranked : (j : ℕ) → j < n → j ≢ i → Ranked (rows j)) (same : Alike i others rows)
       (f : Final n Ch rows t) (none : Unheld Ch (offers rows t) i) (o : offers rows t i y ≡ true) where
     pub rejected : Closed n Ch others v → Ch (offers others v) i y ≡ true → ⊥
     rejected c got = go (final M only)

@@ -1,19 +1,20 @@
 -- A closed state stays closed when one candidate's row is replaced by a single entry that she had offered.
-use mathlib.Core.Path.{_≡_, refl, sym, _∙_, ap, subst⁻¹}
+use mathlib.Core.Path.{_≡_, refl, _∙_, ap, subst⁻¹}
 use mathlib.Core.Bool.{Bool, true, false, not}
-use mathlib.Core.Logic.{_⊎_, inl, inr}
-use Prim.Native.Nat.{ℕ, suc, _≤_, _<_}
+use mathlib.Core.Logic.{_⊎_, inl, inr, _≢_}
+use Prim.Native.Nat.{ℕ, _≤_, _<_}
 use native.Mathlib.Omega.{arith}
 use lib.Dec.{eqb}
 use borrow.Author.Tests.{eqb-true, eq-eqb}
 use Rattle.allotment.proofs.Sums.{bit}
 use Rattle.allotment.proofs.Market.{Offers, _⊆_, Market, Held, kept}
-use Rattle.allotment.proofs.Rows.{Row, Rows, State, offers, offered, tried, put, put-here, put-elsewhere, split-at}
+use Rattle.allotment.proofs.Update.{put, put-here, put-elsewhere, split-at}
+use Rattle.allotment.proofs.Rows.{Row, Rows, State, offers, offered, tried}
 use Rattle.allotment.proofs.Reached.{Closed}
 
 -- rows alike but for i's
 abbrev pub Alike : ℕ → Rows → Rows → Type 0
-Alike i rows others = (j : ℕ) → (j ≡ i → ⊥) → rows j ≡ others j
+Alike i rows others = (j : ℕ) → j ≢ i → rows j ≡ others j
 
 unfoldable pub single : ℕ → Row
 single y = record { len = 1; entry = λ p. y; rank = λ e. bit (not (eqb e y)) }
@@ -44,7 +45,7 @@ module _ {n K : ℕ} {Ch : Offers → Offers} (M : Market n K Ch) {rows : Rows} 
           let p : others i .rank e ≡ single y .rank e = ap (λ r. r .rank e) new in
           subst⁻¹ (λ x. offers rows t i x ≡ true) (single-only y e (omega (arith, tried others (put i 1 t) i e q, put-here i 1 t))) o
 
-      elsewhere : (j : ℕ) → (j ≡ i → ⊥) → offers others (put i 1 t) j e ≡ true → offers rows t j e ≡ true
+      elsewhere : (j : ℕ) → j ≢ i → offers others (put i 1 t) j e ≡ true → offers rows t j e ≡ true
       elsewhere j d q =
           let p : others j .rank e ≡ rows j .rank e = ap (λ r. r .rank e) (same j d) in
           offered rows t j e (omega (arith, tried others (put i 1 t) j e q, put-elsewhere i 1 t j d))
@@ -55,7 +56,7 @@ module _ {n K : ℕ} {Ch : Offers → Offers} (M : Market n K Ch) {rows : Rows} 
       offered others (put i 1 t) i y (omega (arith, single-rank y, put-here i 1 t))
 
   -- whoever else holds something holds it still
-  pub single-held : (j e : ℕ) → (j ≡ i → ⊥) → Ch (offers rows t) j e ≡ true → Ch (offers others (put i 1 t)) j e ≡ true
+  pub single-held : (j e : ℕ) → j ≢ i → Ch (offers rows t) j e ≡ true → Ch (offers others (put i 1 t)) j e ≡ true
   single-held j e d q =
       let p : others j .rank e ≡ rows j .rank e = ap (λ r. r .rank e) (same j d) in
       let m : rows j .rank e < t j = tried rows t j e (M .within (offers rows t) j e q) in
@@ -71,9 +72,9 @@ module _ {n K : ℕ} {Ch : Offers → Offers} (M : Market n K Ch) {rows : Rows} 
       full : others i .len ≡ 1
       full = ap (λ r. r .len) new ∙ single-len y
 
-      len-elsewhere : (j : ℕ) → (j ≡ i → ⊥) → others j .len ≡ rows j .len
+      len-elsewhere : (j : ℕ) → j ≢ i → others j .len ≡ rows j .len
       len-elsewhere j d = ap (λ r. r .len) (same j d)
 
-      go : (j : ℕ) → (j ≡ i → ⊥) → Held Ch (offers rows t) j ⊎ (t j ≡ rows j .len) → Held Ch (offers others (put i 1 t)) j ⊎ (put i 1 t j ≡ others j .len)
+      go : (j : ℕ) → j ≢ i → Held Ch (offers rows t) j ⊎ (t j ≡ rows j .len) → Held Ch (offers others (put i 1 t)) j ⊎ (put i 1 t j ≡ others j .len)
       go j d (inl (e, q)) = inl (e, single-held j e d q)
       go j d (inr q) = inr (omega (arith, put-elsewhere i 1 t j d, len-elsewhere j d))

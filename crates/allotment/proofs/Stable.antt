@@ -1,11 +1,12 @@
 -- Offers of which none stands below its candidate's seat were all tried, so with the seats they are chosen as the seats alone.
-use mathlib.Core.Path.{_≡_, refl, sym, _∙_}
-use mathlib.Core.Bool.{Bool, true, false, _||_}
+use mathlib.Core.Path.{_≡_}
+use mathlib.Core.Bool.{true, _||_}
 use mathlib.Core.Logic.{_⊎_, inl, inr}
-use Prim.Native.Nat.{ℕ, suc, _≤_, _<_}
+use Prim.Native.Nat.{ℕ, _≤_, _<_}
 use native.Mathlib.Omega.{arith}
-use Rattle.allotment.proofs.Market.{Offers, _⊆_, Market, Held, Unheld, held-or-not}
-use Rattle.allotment.proofs.Rows.{Row, Rows, State, offers, offered, tried}
+use Rattle.allotment.proofs.Tests.{or-case, or-right}
+use Rattle.allotment.proofs.Market.{Offers, _⊆_, Market, Held}
+use Rattle.allotment.proofs.Rows.{Rows, State, offers, offered, tried}
 use Rattle.allotment.proofs.Reached.{Closed}
 use Rattle.allotment.proofs.Between.{between}
 
@@ -17,14 +18,6 @@ abbrev pub _∪_ : Offers → Offers → Offers
 pub record NoneBelow (n : ℕ) (rows : Rows) (X Z : Offers) : Type 0 where
   pub listed : (i e : ℕ) → Z i e ≡ true → (i < n) × (rows i .rank e < rows i .len)
   pub above : (i e d : ℕ) → Z i e ≡ true → X i d ≡ true → rows i .rank e ≤ rows i .rank d
-
-or-case : (a b : Bool) → (a || b) ≡ true → (a ≡ true) ⊎ (b ≡ true)
-or-case true b p = inl p
-or-case false b p = inr p
-
-or-right : (a b : Bool) → b ≡ true → (a || b) ≡ true
-or-right true b p = refl
-or-right false b p = p
 
 module _ {n K : ℕ} {Ch : Offers → Offers} (M : Market n K Ch) {rows : Rows} {t : State} (c : Closed n Ch rows t) (Z : Offers)
     (h : NoneBelow n rows (Ch (offers rows t)) Z) where

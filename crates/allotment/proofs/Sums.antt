@@ -1,9 +1,11 @@
 -- Sums of numbers, and counts of tests, below a bound.
-use mathlib.Core.Path.{_≡_, refl, sym, _∙_, ap, subst}
+use mathlib.Core.Path.{_≡_, refl, sym, ap}
 use mathlib.Core.Bool.{Bool, true, false}
+use mathlib.Core.Logic.{_≢_}
 use Prim.Native.Nat.{ℕ, zero, suc, _+_, _≤_, _<_}
 use native.Mathlib.Omega.{arith}
 use native.Mathlib.Decide.{ℕ-discrete}
+use Rattle.allotment.proofs.Tests.{is-false}
 
 unfoldable pub sum : ℕ → (ℕ → ℕ) → ℕ
 sum zero f = 0
@@ -15,14 +17,6 @@ bit false = 0
 
 unfoldable pub count : ℕ → (ℕ → Bool) → ℕ
 count k f = sum k (λ i. bit (f i))
-
-pub clash : {A : Type 0} {b : Bool} → b ≡ true → b ≡ false → A
-clash p q = let z : _≡_ {A = ℕ} 1 0 = ap bit (sym p ∙ q) in absurd (omega arith)
-
--- a Bool is false where true is absurd
-pub is-false : (b : Bool) → (b ≡ true → ⊥) → b ≡ false
-is-false true h = absurd (h refl)
-is-false false h = refl
 
 pub sum-le : (k : ℕ) (f g : ℕ → ℕ) → ((i : ℕ) → i < k → f i ≤ g i) → sum k f ≤ sum k g
 unfolding sum
@@ -60,7 +54,7 @@ sum-lt (suc k) f g h j l s =
     ]
 
 -- a sum in which one summand is greater by one
-pub sum-suc : (k : ℕ) (f g : ℕ → ℕ) (j : ℕ) → j < k → g j ≡ suc (f j) → ((i : ℕ) → (i ≡ j → ⊥) → g i ≡ f i) → sum k g ≡ suc (sum k f)
+pub sum-suc : (k : ℕ) (f g : ℕ → ℕ) (j : ℕ) → j < k → g j ≡ suc (f j) → ((i : ℕ) → i ≢ j → g i ≡ f i) → sum k g ≡ suc (sum k f)
 unfolding sum
 sum-suc zero f g j l s h = absurd (omega arith)
 sum-suc (suc k) f g j l s h =

@@ -2,11 +2,12 @@
 use mathlib.Core.Path.{_≡_, sym, _∙_, subst⁻¹}
 use mathlib.Core.Bool.{true}
 use mathlib.Core.Logic.{_⊎_, inl, inr}
-use Prim.Native.Nat.{ℕ, suc, _≤_, _<_}
+use Prim.Native.Nat.{ℕ, _<_}
 use native.Mathlib.Omega.{arith}
-use Rattle.allotment.proofs.Sums.{clash}
+use Rattle.allotment.proofs.Tests.{clash}
 use Rattle.allotment.proofs.Market.{Offers, Market, Held, Unheld, held-or-not}
-use Rattle.allotment.proofs.Rows.{Row, Ranked, Rows, State, offers, offered, put-elsewhere}
+use Rattle.allotment.proofs.Update.{put-elsewhere}
+use Rattle.allotment.proofs.Rows.{Ranked, Rows, State, offers, offered}
 use Rattle.allotment.proofs.Reached.{Closed, Final}
 use Rattle.allotment.proofs.Final.{final}
 use Rattle.allotment.proofs.Single.{Alike}
