@@ -33,7 +33,8 @@ module _ {n K : ℕ} {Ch : Offers → Offers} (M : Market n K Ch) {rows : Rows} 
           let p : u i ≡ t i = s .elsewhere i d in
           was i (before i q (omega (arith, last i q))) ∙ sym p
 
-  pub one-held : {t : State} → Reached n Ch rows t → (i : ℕ) → Ranked (rows i) → (a b : ℕ) → Ch (offers rows t) i a ≡ true → Ch (offers rows t) i b ≡ true → a ≡ b
+  pub one-held : {t : State} → Reached n Ch rows t → (i : ℕ) → Ranked (rows i) → (a b : ℕ)
+      → Ch (offers rows t) i a ≡ true → Ch (offers rows t) i b ≡ true → a ≡ b
   one-held {t} r i law a b p q =
       let x : suc (rows i .rank a) ≡ t i = alone r i a p in
       let y : suc (rows i .rank b) ≡ t i = alone r i b q in

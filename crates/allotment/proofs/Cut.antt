@@ -1,7 +1,7 @@
 -- A row cut behind one of its entries: whoever holds something at the end with the cut row holds something as good with the whole row.
 use mathlib.Core.Path.{_≡_, ap, subst, fun-ext}
 use mathlib.Core.Bool.{true}
-use mathlib.Core.Logic.{_⊎_, inl, inr, _≢_}
+use mathlib.Core.Logic.{inl, inr, _≢_}
 use Prim.Native.Nat.{ℕ, suc, _≤_, _<_}
 use native.Mathlib.Omega.{arith}
 use native.Mathlib.Decide.{decLe}
@@ -9,7 +9,7 @@ use lib.Dec.{ltb}
 use Rattle.allotment.proofs.Market.{Offers, _⊆_, Market, Held, kept}
 use Rattle.allotment.proofs.Update.{put, put-here, put-elsewhere, split-at}
 use Rattle.allotment.proofs.Rows.{Row, Rows, State, offers, offered, tried, offers-le}
-use Rattle.allotment.proofs.Reached.{Closed, Final}
+use Rattle.allotment.proofs.Reached.{Served, Closed, Final}
 use Rattle.allotment.proofs.Least.{least}
 use Rattle.allotment.proofs.Alone.{alone}
 
@@ -55,16 +55,17 @@ module _ {n K : ℕ} {Ch : Offers → Offers} (M : Market n K Ch) (rows : Rows) 
             (omega (arith, c .fits i, cut-len rows i p))
             (λ j d. omega (arith, c .fits j, len-elsewhere rows i p j d));
         served =
-            split-at (λ j. j < n → Held Ch (offers rows t) j ⊎ (t j ≡ rows j .len)) i
+            split-at (λ j. j < n → Served Ch rows t j) i
             (λ l. inl (whole-held t i h))
             (λ j d l. go j d (c .served j l));
       }
     where
-      go : (j : ℕ) → j ≢ i → Held Ch (offers (cutAt rows i p) t) j ⊎ (t j ≡ cutAt rows i p j .len) → Held Ch (offers rows t) j ⊎ (t j ≡ rows j .len)
+      go : (j : ℕ) → j ≢ i → Served Ch (cutAt rows i p) t j → Served Ch rows t j
       go j d (inl q) = inl (whole-held t j q)
       go j d (inr q) = inr (omega (arith, len-elsewhere rows i p j d))
 
-  pub cut-held : {t u : State} → i < n → Final n Ch rows t → Closed n Ch (cutAt rows i p) u → Held Ch (offers (cutAt rows i p) u) i → HeldBy Ch rows t i p
+  pub cut-held : {t u : State} → i < n → Final n Ch rows t → Closed n Ch (cutAt rows i p) u
+      → Held Ch (offers (cutAt rows i p) u) i → HeldBy Ch rows t i p
   cut-held {t} {u} l f c h = served (f .closed .served i l)
     where
       goes-past : suc p ≤ t i → Held Ch (offers rows u) i → HeldBy Ch rows t i p
@@ -74,7 +75,7 @@ module _ {n K : ℕ} {Ch : Offers → Offers} (M : Market n K Ch) (rows : Rows) 
           let s : offers rows t ⊆ offers rows u = offers-le rows t u (least M (f .reached) (whole-closed c h)) in
           (d, kept M (offers rows t) (offers rows u) i d s (offered rows t i d (omega arith)) q, b)
 
-      served : Held Ch (offers rows t) i ⊎ (t i ≡ rows i .len) → HeldBy Ch rows t i p
+      served : Served Ch rows t i → HeldBy Ch rows t i p
       served (inl (e, q)) =
           elim (decLe (rows i .rank e) p) [
             | yes m ↦ (e, q, m)

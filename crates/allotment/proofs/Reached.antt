@@ -1,10 +1,10 @@
 -- States that turns lead to: a candidate held nowhere tries the next entry of the row. Closed: nobody has a turn left.
-use mathlib.Core.Path.{_≡_, _∙_}
+use mathlib.Core.Path.{_≡_, refl, _∙_}
 use mathlib.Core.Logic.{_⊎_, _≢_}
 use mathlib.Core.List.{List}
-use Prim.Native.Nat.{ℕ, suc, _≤_, _<_}
+use Prim.Native.Nat.{ℕ, zero, suc, _≤_, _<_}
 use native.Mathlib.Omega.{arith}
-use lib.ListN.{length, getD, set}
+use lib.ListN.{length, getD, set, replicate}
 use lib.Seq.{getD-set-same, getD-set-other}
 use Rattle.allotment.proofs.Sums.{sum, sum-suc}
 use Rattle.allotment.proofs.Market.{Offers, Held, Unheld}
@@ -21,9 +21,13 @@ pub data Reached (n : ℕ) (Ch : Offers → Offers) (rows : Rows) : State → Ty
   step : {t u : State} (i : ℕ) → Reached n Ch rows t → i < n → Unheld Ch (offers rows t) i → t i < rows i .len → Turned i t u
       → Reached n Ch rows u
 
+-- i is held, or has tried the whole row
+abbrev pub Served : (Offers → Offers) → Rows → State → ℕ → Type 0
+Served Ch rows t i = Held Ch (offers rows t) i ⊎ (t i ≡ rows i .len)
+
 pub record Closed (n : ℕ) (Ch : Offers → Offers) (rows : Rows) (u : State) : Type 0 where
   pub fits : (i : ℕ) → u i ≤ rows i .len
-  pub served : (i : ℕ) → i < n → Held Ch (offers rows u) i ⊎ (u i ≡ rows i .len)
+  pub served : (i : ℕ) → i < n → Served Ch rows u i
 
 pub record Final (n : ℕ) (Ch : Offers → Offers) (rows : Rows) (t : State) : Type 0 where
   pub reached : Reached n Ch rows t
@@ -36,8 +40,14 @@ pub turn-turned : (i : ℕ) (t : State) → Turned i t (turn i t)
 unfolding turn
 turn-turned i t = record { here = put-here i (suc (t i)) t; elsewhere = put-elsewhere i (suc (t i)) t }
 
--- a state kept in a list
-pub set-turned : (l : List ℕ) (i v : ℕ) → i < length l → v ≡ suc (getD l i 0) → Turned i (λ j. getD l j 0) (λ j. getD (set l i v) j 0)
+-- a state kept in a list: the start, and a turn
+pub zeros : (m i : ℕ) → _≡_ {A = ℕ} (getD (replicate m 0) i 0) 0
+zeros zero i = refl
+zeros (suc m) zero = refl
+zeros (suc m) (suc i) = zeros m i
+
+pub set-turned : (l : List ℕ) (i v : ℕ) → i < length l → v ≡ suc (getD l i 0)
+    → Turned i (λ j. getD l j 0) (λ j. getD (set l i v) j 0)
 set-turned l i v h p = record { here = getD-set-same l i v 0 h ∙ p; elsewhere = λ j d. getD-set-other l i j v 0 d }
 
 pub turned-le : {i : ℕ} {t u : State} → Turned i t u → (j : ℕ) → t j ≤ u j

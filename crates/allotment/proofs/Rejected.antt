@@ -8,12 +8,12 @@ use Rattle.allotment.proofs.Tests.{clash}
 use Rattle.allotment.proofs.Sums.{count, sum-lt, count-none, count-one, count-some}
 use Rattle.allotment.proofs.Market.{Offers, Market, Held, Unheld, kept, held-or-not, total}
 use Rattle.allotment.proofs.Update.{put, put-here, put-elsewhere, split-at}
-use Rattle.allotment.proofs.Rows.{Ranked, Rows, State, offers, offered, tried, offers-le}
-use Rattle.allotment.proofs.Reached.{Closed, Final}
+use Rattle.allotment.proofs.Rows.{Ranked, Rows, Alike, State, offers, offered, tried, offers-le}
+use Rattle.allotment.proofs.Reached.{Served, Closed, Final}
 use Rattle.allotment.proofs.Least.{least}
 use Rattle.allotment.proofs.Alone.{one-held}
 use Rattle.allotment.proofs.Final.{final}
-use Rattle.allotment.proofs.Single.{Alike, single, single-within, single-offered, single-held, single-closed}
+use Rattle.allotment.proofs.Single.{single, single-within, single-offered, single-held, single-closed}
 
 module _ {n K : ℕ} {Ch : Offers → Offers} (M : Market n K Ch) where
   -- nobody loses, and i, who held nothing, holds something: more is held
@@ -32,10 +32,11 @@ module _ {n K : ℕ} {Ch : Offers → Offers} (M : Market n K Ch) where
       low j l (inr g) = omega (arith, count-none K (Ch O j) (λ e l. g e))
 
   -- of two closed states the lower holds whomever the upper holds
-  held-below : {rows : Rows} {t u : State} → Closed n Ch rows t → Closed n Ch rows u → ((j : ℕ) → t j ≤ u j) → (j : ℕ) → Held Ch (offers rows u) j → Held Ch (offers rows t) j
+  held-below : {rows : Rows} {t u : State} → Closed n Ch rows t → Closed n Ch rows u → ((j : ℕ) → t j ≤ u j)
+      → (j : ℕ) → Held Ch (offers rows u) j → Held Ch (offers rows t) j
   held-below {rows} {t} {u} c d b j (e, q) = go (c .served j (M .bounded (offers rows u) j e q .0))
     where
-      go : Held Ch (offers rows t) j ⊎ (t j ≡ rows j .len) → Held Ch (offers rows t) j
+      go : Served Ch rows t j → Held Ch (offers rows t) j
       go (inl h) = h
       go (inr p) =
           let o : rows j .rank e < u j = tried rows u j e (M .within (offers rows u) j e q) in
@@ -69,7 +70,8 @@ module _ {n K : ℕ} {Ch : Offers → Offers} (M : Market n K Ch) where
 
         got-there : Ch (offers only (put i 1 v)) i y ≡ true
         got-there =
-            kept M (offers only (put i 1 v)) (offers others v) i y (single-within M c i y offered-there as-others new) (single-offered M c i y offered-there as-others new) got
+            kept M (offers only (put i 1 v)) (offers others v) i y (single-within M c i y offered-there as-others new)
+            (single-offered M c i y offered-there as-others new) got
 
         one : (j : ℕ) → j < n → (a b : ℕ) → Ch (offers rows t) j a ≡ true → Ch (offers rows t) j b ≡ true → a ≡ b
         one =

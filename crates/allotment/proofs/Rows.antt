@@ -1,6 +1,7 @@
 -- Rows of entries in order of preference, how many entries of each row have been tried, and the offers so made.
 use mathlib.Core.Path.{_≡_}
 use mathlib.Core.Bool.{true}
+use mathlib.Core.Logic.{_≢_}
 use Prim.Native.Nat.{ℕ, _≤_, _<_}
 use native.Mathlib.Omega.{arith}
 use lib.Dec.{ltb}
@@ -19,6 +20,10 @@ pub record Ranked (r : Row) : Type 0 where
 
 abbrev pub Rows : Type 0
 Rows = ℕ → Row
+
+-- rows alike but for i's
+abbrev pub Alike : ℕ → Rows → Rows → Type 0
+Alike i rows others = (j : ℕ) → j ≢ i → rows j ≡ others j
 
 abbrev pub State : Type 0
 State = ℕ → ℕ

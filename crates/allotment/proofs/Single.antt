@@ -1,20 +1,16 @@
 -- A closed state stays closed when one candidate's row is replaced by a single entry that she had offered.
 use mathlib.Core.Path.{_≡_, refl, _∙_, ap, subst⁻¹}
 use mathlib.Core.Bool.{Bool, true, false, not}
-use mathlib.Core.Logic.{_⊎_, inl, inr, _≢_}
+use mathlib.Core.Logic.{inl, inr, _≢_}
 use Prim.Native.Nat.{ℕ, _≤_, _<_}
 use native.Mathlib.Omega.{arith}
 use lib.Dec.{eqb}
 use borrow.Author.Tests.{eqb-true, eq-eqb}
 use Rattle.allotment.proofs.Sums.{bit}
-use Rattle.allotment.proofs.Market.{Offers, _⊆_, Market, Held, kept}
+use Rattle.allotment.proofs.Market.{Offers, _⊆_, Market, kept}
 use Rattle.allotment.proofs.Update.{put, put-here, put-elsewhere, split-at}
-use Rattle.allotment.proofs.Rows.{Row, Rows, State, offers, offered, tried}
-use Rattle.allotment.proofs.Reached.{Closed}
-
--- rows alike but for i's
-abbrev pub Alike : ℕ → Rows → Rows → Type 0
-Alike i rows others = (j : ℕ) → j ≢ i → rows j ≡ others j
+use Rattle.allotment.proofs.Rows.{Row, Rows, Alike, State, offers, offered, tried}
+use Rattle.allotment.proofs.Reached.{Served, Closed}
 
 unfoldable pub single : ℕ → Row
 single y = record { len = 1; entry = λ p. y; rank = λ e. bit (not (eqb e y)) }
@@ -60,13 +56,20 @@ module _ {n K : ℕ} {Ch : Offers → Offers} (M : Market n K Ch) {rows : Rows} 
   single-held j e d q =
       let p : others j .rank e ≡ rows j .rank e = ap (λ r. r .rank e) (same j d) in
       let m : rows j .rank e < t j = tried rows t j e (M .within (offers rows t) j e q) in
-      kept M (offers others (put i 1 t)) (offers rows t) j e single-within (offered others (put i 1 t) j e (omega (arith, put-elsewhere i 1 t j d))) q
+      kept M (offers others (put i 1 t)) (offers rows t) j e single-within
+      (offered others (put i 1 t) j e (omega (arith, put-elsewhere i 1 t j d))) q
 
   pub single-closed : Closed n Ch others (put i 1 t)
   single-closed =
       record {
-        fits = split-at (λ j. put i 1 t j ≤ others j .len) i (omega (arith, put-here i 1 t, full)) (λ j d. omega (arith, put-elsewhere i 1 t j d, len-elsewhere j d, c .fits j));
-        served = split-at (λ j. j < n → Held Ch (offers others (put i 1 t)) j ⊎ (put i 1 t j ≡ others j .len)) i (λ l. inr (omega (arith, put-here i 1 t, full))) (λ j d l. go j d (c .served j l));
+        fits =
+            split-at (λ j. put i 1 t j ≤ others j .len) i
+            (omega (arith, put-here i 1 t, full))
+            (λ j d. omega (arith, put-elsewhere i 1 t j d, len-elsewhere j d, c .fits j));
+        served =
+            split-at (λ j. j < n → Served Ch others (put i 1 t) j) i
+            (λ l. inr (omega (arith, put-here i 1 t, full)))
+            (λ j d l. go j d (c .served j l));
       }
     where
       full : others i .len ≡ 1
@@ -75,6 +78,6 @@ module _ {n K : ℕ} {Ch : Offers → Offers} (M : Market n K Ch) {rows : Rows} 
       len-elsewhere : (j : ℕ) → j ≢ i → others j .len ≡ rows j .len
       len-elsewhere j d = ap (λ r. r .len) (same j d)
 
-      go : (j : ℕ) → j ≢ i → Held Ch (offers rows t) j ⊎ (t j ≡ rows j .len) → Held Ch (offers others (put i 1 t)) j ⊎ (put i 1 t j ≡ others j .len)
+      go : (j : ℕ) → j ≢ i → Served Ch rows t j → Served Ch others (put i 1 t) j
       go j d (inl (e, q)) = inl (e, single-held j e d q)
       go j d (inr q) = inr (omega (arith, put-elsewhere i 1 t j d, len-elsewhere j d))

@@ -5,9 +5,9 @@ use mathlib.Core.Logic.{_⊎_, inl, inr}
 use Prim.Native.Nat.{ℕ, _≤_, _<_}
 use native.Mathlib.Omega.{arith}
 use Rattle.allotment.proofs.Tests.{or-case, or-right}
-use Rattle.allotment.proofs.Market.{Offers, _⊆_, Market, Held}
+use Rattle.allotment.proofs.Market.{Offers, _⊆_, Market}
 use Rattle.allotment.proofs.Rows.{Rows, State, offers, offered, tried}
-use Rattle.allotment.proofs.Reached.{Closed}
+use Rattle.allotment.proofs.Reached.{Served, Closed}
 use Rattle.allotment.proofs.Between.{between}
 
 infixl 60 _∪_
@@ -24,12 +24,14 @@ module _ {n K : ℕ} {Ch : Offers → Offers} (M : Market n K Ch) {rows : Rows} 
   pub tried-all : Z ⊆ offers rows t
   tried-all i e z = go (c .served i (h .listed i e z .0))
     where
-      go : Held Ch (offers rows t) i ⊎ (t i ≡ rows i .len) → offers rows t i e ≡ true
+      go : Served Ch rows t i → offers rows t i e ≡ true
       go (inl (d, q)) = offered rows t i e (omega (arith, h .above i e d z q, tried rows t i d (M .within (offers rows t) i d q)))
       go (inr q) = offered rows t i e (omega (arith, h .listed i e z))
 
   pub stable : (i e : ℕ) → Ch (Z ∪ Ch (offers rows t)) i e ≡ Ch (offers rows t) i e
-  stable = between M (offers rows t) (Z ∪ Ch (offers rows t)) (λ i e q. or-right (Z i e) (Ch (offers rows t) i e) q) (λ i e q. go i e (or-case (Z i e) (Ch (offers rows t) i e) q))
+  stable = between M (offers rows t) (Z ∪ Ch (offers rows t))
+      (λ i e q. or-right (Z i e) (Ch (offers rows t) i e) q)
+      (λ i e q. go i e (or-case (Z i e) (Ch (offers rows t) i e) q))
     where
       go : (i e : ℕ) → (Z i e ≡ true) ⊎ (Ch (offers rows t) i e ≡ true) → offers rows t i e ≡ true
       go i e (inl z) = tried-all i e z

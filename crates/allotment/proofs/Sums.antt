@@ -28,10 +28,10 @@ unfolding sum
 sum-same zero f g h = refl
 sum-same (suc k) f g h = omega (arith, sum-same k f g (λ i l. h i (omega arith)), h k (omega arith))
 
-pub sum-zero : (k : ℕ) (f : ℕ → ℕ) → ((i : ℕ) → f i ≡ 0) → sum k f ≡ 0
+pub sum-zero : (k : ℕ) (f : ℕ → ℕ) → ((i : ℕ) → i < k → f i ≡ 0) → sum k f ≡ 0
 unfolding sum
 sum-zero zero f h = refl
-sum-zero (suc k) f h = omega (arith, sum-zero k f h, h k)
+sum-zero (suc k) f h = omega (arith, sum-zero k f (λ i l. h i (omega arith)), h k (omega arith))
 
 -- one summand is no more than the sum
 pub sum-at : (k : ℕ) (f : ℕ → ℕ) (j : ℕ) → j < k → f j ≤ sum k f
@@ -90,7 +90,8 @@ pub count-le : (k : ℕ) (f g : ℕ → Bool) → ((i : ℕ) → f i ≡ true �
 unfolding count
 count-le k f g h = sum-le k (λ i. bit (f i)) (λ i. bit (g i)) (λ i l. bit-le (f i) (g i) (h i))
 
-pub count-lt : (k : ℕ) (f g : ℕ → Bool) → ((i : ℕ) → f i ≡ true → g i ≡ true) → (j : ℕ) → j < k → f j ≡ false → g j ≡ true → count k f < count k g
+pub count-lt : (k : ℕ) (f g : ℕ → Bool) → ((i : ℕ) → f i ≡ true → g i ≡ true) → (j : ℕ) → j < k → f j ≡ false → g j ≡ true
+    → count k f < count k g
 unfolding count
 count-lt k f g h j l p q =
     sum-lt k (λ i. bit (f i)) (λ i. bit (g i)) (λ i m. bit-le (f i) (g i) (h i)) j l (omega (arith, ap bit p, ap bit q))

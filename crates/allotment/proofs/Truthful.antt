@@ -7,17 +7,17 @@ use native.Mathlib.Omega.{arith}
 use Rattle.allotment.proofs.Tests.{clash}
 use Rattle.allotment.proofs.Market.{Offers, Market, Held, Unheld, held-or-not}
 use Rattle.allotment.proofs.Update.{put-elsewhere}
-use Rattle.allotment.proofs.Rows.{Ranked, Rows, State, offers, offered}
-use Rattle.allotment.proofs.Reached.{Closed, Final}
+use Rattle.allotment.proofs.Rows.{Ranked, Rows, Alike, State, offers, offered}
+use Rattle.allotment.proofs.Reached.{Served, Closed, Final}
 use Rattle.allotment.proofs.Final.{final}
-use Rattle.allotment.proofs.Single.{Alike}
 use Rattle.allotment.proofs.Cut.{cut, cutAt, cut-rank, cut-len, cut-held, HeldBy}
 use Rattle.allotment.proofs.Rejected.{rejected}
 
-module _ {n K : ℕ} {Ch : Offers → Offers} (M : Market n K Ch) {rows others : Rows} {t v : State} (ranked : (j : ℕ) → j < n → Ranked (rows j)) where
-  pub truthful : (i y : ℕ) → Alike i others rows → Final n Ch rows t → Closed n Ch others v → Ch (offers others v) i y ≡ true
+module _ {n K : ℕ} {Ch : Offers → Offers} (M : Market n K Ch) where
+  pub truthful : {rows others : Rows} {t v : State} (i y : ℕ) → ((j : ℕ) → j < n → Ranked (rows j)) → Alike i others rows
+      → Final n Ch rows t → Closed n Ch others v → Ch (offers others v) i y ≡ true
       → rows i .rank y < rows i .len → HeldBy Ch rows t i (rows i .rank y)
-  truthful i y same f c got listed = go (final M (cutAt rows i (rows i .rank y)))
+  truthful {rows} {others} {t} {v} i y ranked same f c got listed = go (final M (cutAt rows i (rows i .rank y)))
     where
       less : Rows
       less = cutAt rows i (rows i .rank y)
@@ -31,7 +31,7 @@ module _ {n K : ℕ} {Ch : Offers → Offers} (M : Market n K Ch) {rows others :
       go : (u : State) × Final n Ch less u → HeldBy Ch rows t i (rows i .rank y)
       go (u, e) = served (held-or-not M (offers less u) i)
         where
-          all-tried : Unheld Ch (offers less u) i → Held Ch (offers less u) i ⊎ (u i ≡ less i .len) → offers less u i y ≡ true
+          all-tried : Unheld Ch (offers less u) i → Served Ch less u i → offers less u i y ≡ true
           all-tried none (inl h) = clash (h .1) (none (h .0))
           all-tried none (inr p) = offered less u i y (omega (arith, cut-rank rows i (rows i .rank y) i y, cut-len rows i (rows i .rank y)))
 
