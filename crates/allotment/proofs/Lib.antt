@@ -1,6 +1,8 @@
 pub mod Tests
 pub mod Sums
+pub mod DoubleSums
 pub mod Market
+pub mod Together
 pub mod Update
 pub mod Rows
 pub mod Reached
