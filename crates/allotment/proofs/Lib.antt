@@ -1,1 +1,2 @@
+pub mod Market
 pub mod Starred

@@ -1,0 +1,19 @@
+-- The cumulative offer process in any market whose choice obeys the laws: candidates and entries are numbers, and nothing is known of a round.
+pub mod Tests
+pub mod Sums
+pub mod DoubleSums
+pub mod Laws
+pub mod Together
+pub mod Update
+pub mod Rows
+pub mod Reached
+pub mod Least
+pub mod Alone
+pub mod AnyOrder
+pub mod Between
+pub mod Final
+pub mod Stable
+pub mod Single
+pub mod Cut
+pub mod Rejected
+pub mod Truthful

@@ -1,0 +1,33 @@
+-- What is true is not false, and a search for what is true below a bound.
+use mathlib.Core.Path.{_≡_, refl, sym, _∙_, ap}
+use mathlib.Core.Bool.{Bool, true, false, true≢false, _||_}
+use mathlib.Core.Logic.{_⊎_, inl, inr, _≢_}
+use Prim.Native.Nat.{ℕ, zero, suc, _<_}
+use native.Mathlib.Omega.{arith}
+use native.Mathlib.Decide.{ℕ-discrete}
+
+pub clash : {A : Type 0} {b : Bool} → b ≡ true → b ≡ false → A
+clash p q = absurd (true≢false (sym p ∙ q))
+
+pub is-false : (b : Bool) → b ≢ true → b ≡ false
+is-false true h = absurd (h refl)
+is-false false h = refl
+
+pub or-case : (a b : Bool) → (a || b) ≡ true → (a ≡ true) ⊎ (b ≡ true)
+or-case true b p = inl p
+or-case false b p = inr p
+
+pub or-right : (a b : Bool) → b ≡ true → (a || b) ≡ true
+or-right true b p = refl
+or-right false b p = p
+
+-- some number passes the test, or none below k does
+pub some-below : (k : ℕ) (f : ℕ → Bool) → ((e : ℕ) × (f e ≡ true)) ⊎ ((e : ℕ) → e < k → f e ≡ false)
+some-below zero f = inr (λ e l. absurd (omega arith))
+some-below (suc k) f = go (f k) refl (some-below k f)
+  where
+    go : (b : Bool) → f k ≡ b → ((e : ℕ) × (f e ≡ true)) ⊎ ((e : ℕ) → e < k → f e ≡ false)
+        → ((e : ℕ) × (f e ≡ true)) ⊎ ((e : ℕ) → e < suc k → f e ≡ false)
+    go true t r = inl (k, t)
+    go false t (inl h) = inl h
+    go false t (inr h) = inr (λ e l. elim (ℕ-discrete e k) [ yes p ↦ ap f p ∙ t | no d ↦ h e (omega arith) ])
