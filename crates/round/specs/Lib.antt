@@ -5,3 +5,5 @@ pub mod Records
 pub mod Questions
 pub mod Refusal
 pub mod Reading
+pub mod Places
+pub mod Sound

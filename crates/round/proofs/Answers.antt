@@ -1,0 +1,169 @@
+-- What it says of a record that its questions were answered yes, as facts.
+use Prim.Native.Nat.{ℕ, zero, suc, _+_, _*_, _-_, _/_, _%_, _^_, _<_, _≤_, min}
+use mathlib.Core.Path.{_≡_, refl, sym, ap, _∙_}
+use mathlib.Core.Bool.{Bool, true, false, cond, _&&_, _||_}
+use mathlib.Core.Logic.{_⊎_, inl, inr, ⊎-elim}
+use mathlib.Core.List.{List, [], _∷_, _++_}
+use native.Mathlib.Omega.{arith}
+use borrow.Author.Tests.{leb-true, eqb-true, eqb-false}
+use lib.Dec.{leb, eqb}
+use lib.ListN.{length, getD, take, drop, length-take, length-drop}
+use Rattle.round.specs.Lists.{sumOf, all, apart}
+use Rattle.round.specs.Records.{Head, headIn, word, kindAt, lengthAt, bodyAt}
+use Rattle.round.specs.Questions.{within, even, lengthAllowed, firstNo, questionsAt, kindQuestions, headQuestions, instituteQuestions, candidateQuestions, meritQuestions, positionsIn, reservedIn, entryCount, instituteIn, codeIn, meritCount, meritIn}
+use Rattle.round.proofs.Words.{and-fst, and-snd, and-no, or-cases, all-at, apart-at}
+use Rattle.round.proofs.Passed.{yes}
+
+pub within-from : (low high x : ℕ) → within low high x ≡ true → low ≤ x
+within-from low high x e = leb-true low x (and-fst _ _ e)
+
+pub within-to : (low high x : ℕ) → within low high x ≡ true → x ≤ high
+within-to low high x e = leb-true x high (and-snd (leb low x) _ e)
+
+-- 1 to 4
+pub record LeadYes (file : List ℕ) (h : Head) (kind start : ℕ) : Type 0 where
+  pub lead-there : start + 4 ≤ length file
+  pub kind-due : kindAt file start ≡ kind
+  pub allowed : lengthAllowed h kind (lengthAt file start) ≡ true
+  pub body-there : start + 4 + lengthAt file start ≤ length file
+  pub body-length : length (bodyAt file start) ≡ lengthAt file start
+  pub body-yes : firstNo (kindQuestions h kind (bodyAt file start)) ≡ 0
+
+pub body-whole : (file : List ℕ) (start : ℕ) → start + 4 + lengthAt file start ≤ length file → length (bodyAt file start) ≡ lengthAt file start
+body-whole file start l =
+    omega (arith, length-take (lengthAt file start) (drop (start + 4) file), length-drop (start + 4) file)
+
+pub lead-yes : (file : List ℕ) (h : Head) (kind start : ℕ) → firstNo (questionsAt file h kind start) ≡ 0 → LeadYes file h kind start
+unfolding questionsAt
+lead-yes file h kind start e =
+    let a = yes 0 _ _ e in
+    let b = yes 1 _ _ (a .1) in
+    let c = yes 2 _ _ (b .1) in
+    let d = yes 3 _ _ (c .1) in
+    let there = leb-true _ _ (d .0) in
+    record {
+      lead-there = leb-true _ _ (a .0);
+      kind-due = eqb-true _ _ (b .0);
+      allowed = c .0;
+      body-there = there;
+      body-length = body-whole file start there;
+      body-yes = d .1;
+    }
+
+-- 5
+pub record HeadYes (h : Head) : Type 0 where
+  pub candidates-least : 1 ≤ h .candidates
+  pub candidates-most : h .candidates ≤ 512
+  pub institutes-least : 1 ≤ h .institutes
+  pub institutes-most : h .institutes ≤ 32
+  pub types-most : h .types ≤ 8
+  pub policy-most : h .policy ≤ 1
+
+pub head-yes : (body : List ℕ) → firstNo (headQuestions body) ≡ 0 → HeadYes (headIn body)
+head-yes body e =
+    let h = headIn body in
+    let a = yes 4 _ _ e .0 in
+    let b = and-snd (within 1 512 (h .candidates)) _ a in
+    let c = and-snd (within 1 32 (h .institutes)) _ b in
+    record {
+      candidates-least = within-from 1 512 (h .candidates) (and-fst _ _ a);
+      candidates-most = within-to 1 512 (h .candidates) (and-fst _ _ a);
+      institutes-least = within-from 1 32 (h .institutes) (and-fst _ _ b);
+      institutes-most = within-to 1 32 (h .institutes) (and-fst _ _ b);
+      types-most = leb-true _ _ (and-fst _ _ c);
+      policy-most = leb-true _ _ (and-snd (leb (h .types) 8) _ c);
+    }
+
+-- 6 and 7
+pub record InstituteYes (types : ℕ) (body : List ℕ) : Type 0 where
+  pub positions-few : sumOf 5 (positionsIn types body) ≤ 1024
+  pub reserved-within : (code : ℕ) → code < 5 → sumOf types (reservedIn types body code) ≤ positionsIn types body code
+
+pub institute-yes : (h : Head) (body : List ℕ) → firstNo (instituteQuestions h body) ≡ 0 → InstituteYes (h .types) body
+institute-yes h body e =
+    let a = yes 5 _ _ e in
+    let b = yes 6 _ _ (a .1) in
+    record {
+      positions-few = leb-true _ _ (a .0);
+      reserved-within = λ code l. leb-true _ _ (all-at 5 (λ code. leb (sumOf (h .types) (reservedIn (h .types) body code)) (positionsIn (h .types) body code)) (b .0) code l);
+    }
+
+-- 8 to 10
+pub record CandidateYes (institutes types : ℕ) (body : List ℕ) : Type 0 where
+  pub own-code : getD body 0 0 ≤ 4
+  pub marks-held : getD body 1 0 < 2 ^ types
+  pub entry-from : (k : ℕ) → k < entryCount body → 1 ≤ instituteIn body k
+  pub entry-to : (k : ℕ) → k < entryCount body → instituteIn body k ≤ institutes
+  pub entry-own : (k : ℕ) → k < entryCount body → (codeIn body k ≡ 0) ⊎ (codeIn body k ≡ getD body 0 0)
+  pub entries-differ : (k l : ℕ) → k < l → l < entryCount body → instituteIn body k ≡ instituteIn body l → codeIn body k ≡ codeIn body l → ⊥
+
+pub candidate-yes : (h : Head) (body : List ℕ) → firstNo (candidateQuestions h body) ≡ 0 → CandidateYes (h .institutes) (h .types) body
+candidate-yes h body e =
+    let own : ℕ = getD body 0 0 in
+    let lawful : ℕ → Bool =
+    λ k. within 1 (h .institutes) (instituteIn body k) && (eqb (codeIn body k) 0 || eqb (codeIn body k) own) in
+    let same : ℕ → ℕ → Bool =
+    λ k l. eqb (instituteIn body k) (instituteIn body l) && eqb (codeIn body k) (codeIn body l) in
+    let a = yes 7 _ _ e in
+    let b = yes 8 _ _ (a .1) in
+    let c = yes 9 _ _ (b .1) in
+    let each : (k : ℕ) → k < entryCount body → lawful k ≡ true = all-at (entryCount body) lawful (b .0) in
+    record {
+      own-code = leb-true _ _ (and-fst _ _ (a .0));
+      marks-held = leb-true _ _ (and-snd (leb own 4) _ (a .0));
+      entry-from = λ k l. within-from 1 (h .institutes) (instituteIn body k) (and-fst _ _ (each k l));
+      entry-to = λ k l. within-to 1 (h .institutes) (instituteIn body k) (and-fst _ _ (each k l));
+      entry-own = λ k l. ⊎-elim (λ e. inl (eqb-true _ _ e)) (λ e. inr (eqb-true _ _ e)) (or-cases (eqb (codeIn body k) 0) _ (and-snd (within 1 (h .institutes) (instituteIn body k)) _ (each k l)));
+      entries-differ = λ k l kl ll i j.
+          eqb-false (codeIn body k) (codeIn body l) (and-no (eqb (instituteIn body k) (instituteIn body l)) _ (apart-at (entryCount body) same (c .0) k l kl ll) (borrow.Author.Tests.eq-eqb _ _ i)) j;
+    }
+
+-- 11 and 12
+pub record MeritYes (candidates : ℕ) (body : List ℕ) : Type 0 where
+  pub merit-from : (p : ℕ) → p < meritCount body → 1 ≤ meritIn body p
+  pub merit-to : (p : ℕ) → p < meritCount body → meritIn body p ≤ candidates
+  pub merit-differs : (p q : ℕ) → p < q → q < meritCount body → meritIn body p ≡ meritIn body q → ⊥
+
+pub merit-yes : (h : Head) (body : List ℕ) → firstNo (meritQuestions h body) ≡ 0 → MeritYes (h .candidates) body
+merit-yes h body e =
+    let a = yes 10 _ _ e in
+    let b = yes 11 _ _ (a .1) in
+    let each : (p : ℕ) → p < meritCount body → within 1 (h .candidates) (meritIn body p) ≡ true =
+    all-at (meritCount body) (λ p. within 1 (h .candidates) (meritIn body p)) (a .0) in
+    record {
+      merit-from = λ p l. within-from 1 (h .candidates) (meritIn body p) (each p l);
+      merit-to = λ p l. within-to 1 (h .candidates) (meritIn body p) (each p l);
+      merit-differs = λ p q l m e.
+          eqb-false (meritIn body p) (meritIn body q) (apart-at (meritCount body) (λ p q. eqb (meritIn body p) (meritIn body q)) (b .0) p q l m) e;
+    }
+
+-- the body lengths that 3 allows
+pub length-head : (h : Head) (len : ℕ) → lengthAllowed h 1 len ≡ true → len ≡ 8
+length-head h len e = eqb-true len 8 e
+
+pub length-institute : (h : Head) (len : ℕ) → lengthAllowed h 2 len ≡ true → len ≡ 10 + 10 * h .types
+length-institute h len e = eqb-true len (10 + 10 * h .types) e
+
+pub record LengthCandidate (len : ℕ) : Type 0 where
+  pub least : 2 ≤ len
+  pub most : len ≤ 34
+  pub by-two : len % 2 ≡ 0
+
+pub length-candidate : (h : Head) (len : ℕ) → lengthAllowed h 3 len ≡ true → LengthCandidate len
+length-candidate h len e =
+    let a = and-fst (within 2 34 len) (even len) e in
+    record {
+      least = within-from 2 34 len a;
+      most = within-to 2 34 len a;
+      by-two = eqb-true (len % 2) 0 (and-snd (within 2 34 len) (even len) e);
+    }
+
+pub record LengthMerit (candidates len : ℕ) : Type 0 where
+  pub most : len ≤ 2 * candidates
+  pub by-two : len % 2 ≡ 0
+
+pub length-merit : (h : Head) (len : ℕ) → lengthAllowed h 4 len ≡ true → LengthMerit (h .candidates) len
+length-merit h len e = record {
+  most = leb-true len (2 * h .candidates) (and-fst _ (even len) e);
+  by-two = eqb-true (len % 2) 0 (and-snd (leb len (2 * h .candidates)) (even len) e);
+}

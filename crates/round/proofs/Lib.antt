@@ -1,0 +1,4 @@
+pub mod Words
+pub mod Passed
+pub mod Answers
+pub mod Sound

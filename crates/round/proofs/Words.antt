@@ -1,0 +1,83 @@
+-- Laws of the words of specs/Lists.antt, and of tests.
+use Prim.Native.Nat.{ℕ, zero, suc, _+_, _<_, _≤_}
+use mathlib.Core.Path.{_≡_, refl, sym, ap, _∙_}
+use mathlib.Core.Bool.{Bool, true, false, not, cond, _&&_, _||_}
+use mathlib.Core.Logic.{_⊎_, inl, inr, ⊎-elim}
+use mathlib.Core.List.{List, [], _∷_, _++_}
+use native.Mathlib.Omega.{arith}
+use native.Mathlib.Nat.{add-zero, add-suc, suc-add, zero-add}
+use borrow.Author.Tests.{not-true, leb-true, eqb-true}
+use lib.Dec.{leb, eqb}
+use lib.ListN.{length, getD}
+use Rattle.round.specs.Lists.{tabulate, tabulateFrom, sum, sumOf, all, apart}
+
+-- true is not false
+pub clash : {A : Type 0} → true ≡ false → A
+clash {A} e = let z : _≡_ {A = ℕ} 0 1 = cc in absurd (false-eq z)
+  where
+    false-eq : _≡_ {A = ℕ} 0 1 → ⊥
+    false-eq z = omega arith
+
+pub and-fst : (a b : Bool) → a && b ≡ true → a ≡ true
+and-fst true b e = refl
+and-fst false b e = e
+
+pub and-snd : (a b : Bool) → a && b ≡ true → b ≡ true
+and-snd true b e = e
+and-snd false b e = clash (sym e)
+
+pub and-no : (a b : Bool) → a && b ≡ false → a ≡ true → b ≡ false
+and-no true b e h = e
+and-no false b e h = clash (sym h)
+
+pub or-cases : (a b : Bool) → a || b ≡ true → (a ≡ true) ⊎ (b ≡ true)
+or-cases true b e = inl refl
+or-cases false b e = inr e
+
+-- what holds below a number and at it holds below the next
+pub below-suc : (P : ℕ → Type 0) (n : ℕ) → ((k : ℕ) → k < n → P k) → P n → (k : ℕ) → k < suc n → P k
+below-suc P n h here k l = go (lt-or-eq k n l)
+  where
+    lt-or-eq : (k n : ℕ) → k < suc n → (k < n) ⊎ (k ≡ n)
+    lt-or-eq zero zero l = inr refl
+    lt-or-eq zero (suc n) l = inl (omega arith)
+    lt-or-eq (suc k) zero l = absurd (omega arith)
+    lt-or-eq (suc k) (suc n) l = ⊎-elim (λ (h : k < n). inl (omega arith)) (λ (h : k ≡ n). inr (ap suc h)) (lt-or-eq k n (omega arith))
+
+    go : (k < n) ⊎ (k ≡ n) → P k
+    go (inl lt) = h k lt
+    go (inr e) = rw e here
+
+pub all-at : (n : ℕ) (f : ℕ → Bool) → all n f ≡ true → (k : ℕ) → k < n → f k ≡ true
+all-at zero f e k l = absurd (omega arith)
+all-at (suc n) f e k l = below-suc (λ k. f k ≡ true) n (all-at n f (and-snd (f n) (all n f) e)) (and-fst (f n) (all n f) e) k l
+
+pub apart-at : (n : ℕ) (same : ℕ → ℕ → Bool) → apart n same ≡ true → (i j : ℕ) → i < j → j < n → same i j ≡ false
+apart-at n same e i j l m = not-true (same i j) (all-at j (λ i. not (same i j)) (all-at n (λ j. all j (λ i. not (same i j))) e j m) i l)
+
+pub length-tabulate : {A : Type 0} (s n : ℕ) (f : ℕ → A) → length (tabulateFrom s n f) ≡ n
+length-tabulate s zero f = refl
+length-tabulate s (suc n) f = ap suc (length-tabulate (suc s) n f)
+
+pub getD-tabulate : {A : Type 0} (s n : ℕ) (f : ℕ → A) (d : A) (i : ℕ) → i < n → getD (tabulateFrom s n f) i d ≡ f (s + i)
+getD-tabulate s zero f d i l = absurd (omega arith)
+getD-tabulate s (suc n) f d zero l = ap f (sym (add-zero s))
+getD-tabulate s (suc n) f d (suc i) l =
+    getD-tabulate (suc s) n f d i (omega arith) ∙ ap f (suc-add s i ∙ sym (add-suc s i))
+
+pub tabulate-at : {A : Type 0} (n : ℕ) (f : ℕ → A) (d : A) (i : ℕ) → i < n → getD (tabulate n f) i d ≡ f i
+tabulate-at n f d i l = getD-tabulate 0 n f d i l ∙ ap f (zero-add i)
+
+-- the sum of f s, .., n in all, with the first taken apart
+pub sumOf-front : (n : ℕ) (f : ℕ → ℕ) → sumOf (suc n) f ≡ f 0 + sumOf n (λ i. f (suc i))
+sumOf-front zero f = refl
+sumOf-front (suc n) f = omega (arith, sumOf-front n f)
+
+sum-tabulateFrom : (s n : ℕ) (f : ℕ → ℕ) → sum (tabulateFrom s n f) ≡ sumOf n (λ i. f (s + i))
+sum-tabulateFrom s zero f = refl
+sum-tabulateFrom s (suc n) f =
+    ap (λ (x : ℕ). f s + x) (sum-tabulateFrom (suc s) n f)
+    ∙ simp suc-add (sym (simp (add-zero, add-suc) at (sumOf-front n (λ i. f (s + i)))))
+
+pub sum-tabulate : (n : ℕ) (f : ℕ → ℕ) → sum (tabulate n f) ≡ sumOf n f
+sum-tabulate n f = sum-tabulateFrom 0 n f ∙ simp zero-add

@@ -1,0 +1,36 @@
+-- What stands at a place of a round, from 0.
+use Prim.Native.Nat.{ℕ}
+use mathlib.Core.List.{[]}
+use lib.ListN.{getD}
+use Rattle.round.specs.declared.entry.Category.the-variants.{Open}
+use Rattle.round.specs.declared.entry.Entry.{Entry}
+use Rattle.round.specs.Round.{StepRule, Institute, Candidate, Round}
+
+-- what stands beyond the last place, and is never looked at
+abbrev pub noEntry : Entry
+noEntry = record { institute = 0; category = Open }
+
+abbrev pub noCandidate : Candidate
+noCandidate = record { category = Open; marks = 0; row = [] }
+
+abbrev pub noStep : StepRule
+noStep = record { category = Open; own = 0; reserved = []; receiver = 0 }
+
+abbrev pub noInstitute : Institute
+noInstitute = record { steps = []; merit = [] }
+
+abbrev pub candidateAt : Round → ℕ → Candidate
+candidateAt r i = getD (r .candidates) i noCandidate
+
+abbrev pub instituteAt : Round → ℕ → Institute
+instituteAt r j = getD (r .institutes) j noInstitute
+
+abbrev pub entryAt : Candidate → ℕ → Entry
+entryAt c k = getD (c .row) k noEntry
+
+abbrev pub stepAt : Institute → ℕ → StepRule
+stepAt o s = getD (o .steps) s noStep
+
+-- the candidate number at a place of the merit list
+abbrev pub meritAt : Institute → ℕ → ℕ
+meritAt o p = getD (o .merit) p 0
