@@ -11,7 +11,7 @@ use Rattle.round.specs.Reading.{stepIn, dereserved, stepsIn, entryIn, candidate
 use Rattle.choice.specs.Use.{holds, oneLess, greatest, useOf}
 use Rattle.choice.specs.Step.{raises, takenBefore, takenForUse, remaining, takenByMerit, taken}
 use Rattle.choice.specs.Choice.{considers, positionsAt, takenAt, vacantAt, advance, advanceAll, nothingDone, choose}
-use Rattle.allotment.specs.Rows.{candidateAt, instituteAt, rankIn}
+use Rattle.allotment.specs.Rows.{rankIn}
 use Rattle.allotment.specs.Offers.{placeOn, stepsOn}
 use Rattle.allotment.specs.Process.{Seat, madeTo, chosen, seatBy, seatsAfter, mayOffer, turn, turns, tried, offersMade, seats}
 use Rattle.allotment.specs.Areas.{joined, wordBytes, seatBytes, closingPlace, closingBytes, answerBytes}
@@ -197,5 +197,5 @@ table =
     []
 
 pub starred : map (λ c. called (c .file)) table ≡ map (λ c. c .expected) table
-unfolding called startOf questionsAt verdict verdictFrom stepIn dereserved stepsIn entryIn candidateIn instituteFrom roundOf holds oneLess greatest useOf raises takenBefore takenForUse remaining takenByMerit taken considers positionsAt takenAt vacantAt advance advanceAll nothingDone choose candidateAt instituteAt rankIn placeOn stepsOn madeTo chosen seatBy seatsAfter mayOffer turn turns tried offersMade seats closingPlace closingBytes answerBytes outcome answerAfter workAfter
+unfolding called startOf questionsAt verdict verdictFrom stepIn dereserved stepsIn entryIn candidateIn instituteFrom roundOf holds oneLess greatest useOf raises takenBefore takenForUse remaining takenByMerit taken considers positionsAt takenAt vacantAt advance advanceAll nothingDone choose rankIn placeOn stepsOn madeTo chosen seatBy seatsAfter mayOffer turn turns tried offersMade seats closingPlace closingBytes answerBytes outcome answerAfter workAfter
 starred = refl

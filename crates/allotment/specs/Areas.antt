@@ -7,7 +7,7 @@ use lib.ListN.{length, getD}
 use Rattle.round.specs.Lists.{tabulate}
 use Rattle.round.specs.Round.{Round}
 use Rattle.choice.specs.Use.{greatest}
-use Rattle.allotment.specs.Rows.{instituteAt}
+use Rattle.round.specs.Places.{instituteAt}
 use Rattle.allotment.specs.Offers.{candidateOn}
 use Rattle.allotment.specs.Process.{Seat, noSeat, candidateCount, instituteCount, seats}
 

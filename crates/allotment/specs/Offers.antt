@@ -9,7 +9,8 @@ use Rattle.round.specs.declared.entry.Category.{Category}
 use Rattle.round.specs.Lists.{first}
 use Rattle.round.specs.Round.{Round}
 use Rattle.choice.specs.Choice.{choose}
-use Rattle.allotment.specs.Rows.{candidateAt, instituteAt, sameCategory, categoryAt}
+use Rattle.round.specs.Places.{candidateAt, instituteAt, meritAt}
+use Rattle.allotment.specs.Rows.{sameCategory, categoryAt}
 
 abbrev pub OfferSet : Type 0
 OfferSet = ℕ → Category → Bool
@@ -17,13 +18,12 @@ OfferSet = ℕ → Category → Bool
 module _ (r : Round) (j : ℕ) where
   -- the candidate, from 0, at a place of the merit list of institute j
   abbrev pub candidateOn : ℕ → ℕ
-  candidateOn p = getD (instituteAt r j .merit) p 0 - 1
+  candidateOn p = meritAt (instituteAt r j) p - 1
 
   -- the place of candidate i on that merit list; its length where i is absent
   unfoldable pub placeOn : ℕ → ℕ
   placeOn i =
-      let merit : List ℕ = instituteAt r j .merit in
-      first (length merit) (λ p. eqb (getD merit p 0) (suc i))
+      first (length (instituteAt r j .merit)) (λ p. eqb (meritAt (instituteAt r j) p) (suc i))
 
   -- the step that each place of the merit list is given when institute j chooses from a set of offers
   unfoldable pub stepsOn : OfferSet → List ℕ

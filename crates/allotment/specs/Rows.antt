@@ -1,31 +1,15 @@
--- Candidates and institutes of a round by their place in the file, from 0, and where an entry stands in a row.
+-- Rows of entries, and where an entry stands in a row (document 01, "The unit" and "The words of demand 3").
 use Prim.Native.Nat.{ℕ, suc, _-_}
 use mathlib.Core.Bool.{Bool, cond, _&&_}
 use mathlib.Core.List.{List, [], _∷_}
 use lib.Dec.{eqb}
-use lib.ListN.{length, getD}
 use Rattle.round.specs.declared.entry.Category.{Category}
-use Rattle.round.specs.declared.entry.Category.the-variants.{Open}
 use Rattle.round.specs.declared.entry.Entry.{Entry}
 use Rattle.round.specs.Category.{codeOf}
-use Rattle.round.specs.Round.{StepRule, Institute, Candidate, Round}
+use Rattle.round.specs.Round.{Round}
+use Rattle.round.specs.Places.{candidateAt, instituteAt, stepAt}
 
--- what stands past the end of a list of candidates, of institutes and of steps
-abbrev pub nobody : Candidate
-nobody = record { category = Open; marks = 0; row = [] }
-
-abbrev pub nowhere : Institute
-nowhere = record { steps = []; merit = [] }
-
-abbrev pub noStep : StepRule
-noStep = record { category = Open; own = 0; reserved = []; receiver = 0 }
-
-unfoldable pub candidateAt : Round → ℕ → Candidate
-candidateAt r i = getD (r .candidates) i nobody
-
-unfoldable pub instituteAt : Round → ℕ → Institute
-instituteAt r j = getD (r .institutes) j nowhere
-
+-- the row of candidate i, from 0
 abbrev pub rowAt : Round → ℕ → List Entry
 rowAt r i = candidateAt r i .row
 
@@ -46,4 +30,4 @@ rankIn (x ∷ xs) e = let later = suc (rankIn xs e) in cond (sameEntry x e) 0 la
 
 -- the category of step k, from 1, of institute j
 abbrev pub categoryAt : Round → ℕ → ℕ → Category
-categoryAt r j k = getD (instituteAt r j .steps) (k - 1) noStep .category
+categoryAt r j k = stepAt (instituteAt r j) (k - 1) .category

@@ -10,7 +10,8 @@ use Rattle.round.specs.Questions.{within}
 use Rattle.round.specs.Records.{headOf, recordOf, bodyOf, candidateRecord, recordCount}
 use Rattle.round.specs.Round.{Round}
 use Rattle.round.specs.Reading.{roundOf}
-use Rattle.allotment.specs.Rows.{rowAt, rankIn, entryOf, instituteAt, categoryAt}
+use Rattle.round.specs.Places.{instituteAt}
+use Rattle.allotment.specs.Rows.{rowAt, rankIn, entryOf, categoryAt}
 use Rattle.allotment.specs.Process.{Seat, isNone, candidateCount, instituteCount}
 use Rattle.allotment.specs.Areas.{seatIn}
 use Rattle.allotment.specs.Outcome.{Accepted, answerAfter}
