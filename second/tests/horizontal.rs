@@ -1,6 +1,7 @@
 //! The use of a set against its definition and against the smallest cut.
 
 use second::horizontal::use_of;
+use second::random::Random;
 
 /// The use by its definition: every way of giving each candidate a held type with a position left, or none.
 fn by_definition(marks: &[u8], reserved: &mut [usize]) -> usize {
@@ -67,6 +68,40 @@ fn moves_may_go_through_all_eight_types() {
         let mut reserved = vec![1; 8];
         assert_eq!(use_of(&marks, &reserved), 8);
         reserved[missing] = 0;
+        assert_eq!(use_of(&marks, &reserved), by_cut(&marks, &reserved));
+    }
+}
+
+#[test]
+fn use_agrees_with_the_definition_on_some_cases_of_four_types() {
+    let mut random = Random::new(4);
+    for _ in 0..3000 {
+        let people = random.from_to(0, 7);
+        let marks: Vec<u8> = (0..people).map(|_| random.from_to(0, 15) as u8).collect();
+        let mut reserved: Vec<usize> = (0..4).map(|_| random.from_to(0, 2)).collect();
+        let defined = by_definition(&marks, &mut reserved);
+        assert_eq!(use_of(&marks, &reserved), defined);
+        assert_eq!(by_cut(&marks, &reserved), defined);
+    }
+}
+
+#[test]
+fn use_agrees_with_the_cut_on_some_cases_of_eight_types() {
+    let mut random = Random::new(8);
+    for _ in 0..3000 {
+        let people = random.from_to(0, 60);
+        let sparse = random.one_in(2);
+        let marks: Vec<u8> = (0..people)
+            .map(|_| {
+                let all = random.bits();
+                (if sparse {
+                    all & all >> 8 & all >> 16
+                } else {
+                    all
+                }) as u8
+            })
+            .collect();
+        let reserved: Vec<usize> = (0..8).map(|_| random.from_to(0, 9)).collect();
         assert_eq!(use_of(&marks, &reserved), by_cut(&marks, &reserved));
     }
 }

@@ -6,6 +6,7 @@ mod words;
 mod wrong;
 
 use second::choice::{Document, Rule};
+use second::generate::{lawful_round, Class};
 use second::offers::{allot, Process, Seat};
 use second::random::Random;
 use second::reading::{read, Round};
@@ -13,7 +14,7 @@ use second::writing::write;
 use second::{call_on, Outcome};
 use statements::{
     any_order, choice_is_one, completion_agrees_in_the_run, completion_is_one,
-    held_and_new_suffice, stable, truthful, Found,
+    held_and_new_suffice, held_once, stable, truthful, Found,
 };
 use std::cell::RefCell;
 use tiny::tiny;
@@ -24,7 +25,7 @@ use wrong::{
 };
 
 /// How many rounds each statement is run over.
-const ROUNDS: u64 = 4000;
+const ROUNDS: u64 = 6000;
 
 /// How many rounds a wrong rule has to pass before it counts as not turned back.
 const WRONG_ROUNDS: u64 = 1500;
@@ -105,18 +106,8 @@ fn the_choice_is_one() {
 }
 
 #[test]
-fn nobody_is_held_by_two() {
-    holds_always(|round, _| {
-        let mut process = Process::new(round, &Document);
-        while let Some(&candidate) = process.ready().first() {
-            process.turn(candidate);
-            for who in 0..round.candidates.len() {
-                let held = process.held.iter().flatten();
-                assert!(held.filter(|taken| taken.offer.candidate == who).count() <= 1);
-            }
-        }
-        Ok(())
-    });
+fn nobody_is_held_twice() {
+    holds_always(|round, _| held_once(round, &Document));
 }
 
 #[test]
@@ -136,6 +127,20 @@ fn same_choice<R: Rule + ?Sized>(round: &Round, rule: &R, random: &mut Random) -
         }
     }
     Ok(())
+}
+
+#[test]
+fn statements_3_to_5_hold_of_larger_rounds() {
+    let small = (0..1500).map(|seed| (Class::Small, seed));
+    let mid = (0..6).map(|seed| (Class::Mid, seed));
+    for (class, seed) in small.chain(mid) {
+        let round = lawful_round(class, seed);
+        let found = any_order(&round, &Document, &mut Random::new(seed))
+            .and_then(|()| held_and_new_suffice(&round, &Document))
+            .and_then(|()| held_once(&round, &Document))
+            .and_then(|()| completion_agrees_in_the_run(&round, &Document));
+        assert_eq!(found, Ok(()), "{} {seed}", class.name());
+    }
 }
 
 #[test]
@@ -167,7 +172,6 @@ fn the_tiny_rounds_are_contested() {
             })
         }));
     }
-    println!("of {ROUNDS} rounds: displaced in {displaced}, step 6 in {sixth}, both entries offered in {both}");
     assert!(displaced * 4 > ROUNDS, "{displaced}");
     assert!(sixth * 8 > ROUNDS, "{sixth}");
     assert!(both * 4 > ROUNDS, "{both}");
@@ -195,6 +199,7 @@ fn turned_back<R: Rule>(rule: &R) -> Vec<&'static str> {
     add("4 held and new", &|round, _| {
         held_and_new_suffice(round, rule)
     });
+    add("held once", &|round, _| held_once(round, rule));
     add("5 in the run", &|round, _| {
         completion_agrees_in_the_run(round, rule)
     });
@@ -236,13 +241,79 @@ const WORKED: [(&str, &[u8]); 5] = [
 ];
 
 #[test]
-fn matrix() {
-    println!("document {:?}", turned_back(&Document));
-    println!("never moved {:?}", turned_back(&NeverMoved));
-    println!("positions kept {:?}", turned_back(&PositionsKept));
-    println!("seats kept {:?}", turned_back(&SeatsKept));
-    println!("considered twice {:?}", turned_back(&ConsideredTwice));
-    println!("considered by code {:?}", turned_back(&ConsideredByCode));
-    println!("marked first {:?}", turned_back(&MarkedFirst));
-    println!("all marked first {:?}", turned_back(&AllMarkedFirst));
+fn never_moving_is_another_stable_and_truthful_rule_turned_back_by_its_worked_round() {
+    assert_eq!(
+        turned_back(&NeverMoved),
+        ["words", "round moved-between-types"]
+    );
+}
+
+#[test]
+fn keeping_dereserved_positions_is_turned_back_as_more_seats_than_positions() {
+    assert_eq!(
+        turned_back(&PositionsKept),
+        ["one choice", "words", "round a"]
+    );
+}
+
+#[test]
+fn keeping_dereserved_seats_is_turned_back_by_demand_3() {
+    assert_eq!(
+        turned_back(&SeatsKept),
+        [
+            "1 truthful",
+            "2 stable",
+            "3 any order",
+            "5 in the run",
+            "5 on any sets",
+            "words",
+            "round a"
+        ]
+    );
+}
+
+#[test]
+fn considering_twice_shows_only_in_the_choice_itself() {
+    assert_eq!(turned_back(&ConsideredTwice), ["one choice", "words"]);
+}
+
+#[test]
+fn considering_by_code_is_turned_back_by_demand_3() {
+    assert_eq!(
+        turned_back(&ConsideredByCode),
+        [
+            "1 truthful",
+            "3 any order",
+            "4 held and new",
+            "held once",
+            "5 in the run",
+            "5 on any sets",
+            "words"
+        ]
+    );
+}
+
+#[test]
+fn taking_the_best_marked_first_is_turned_back_by_demand_3() {
+    assert_eq!(
+        turned_back(&MarkedFirst),
+        [
+            "1 truthful",
+            "2 stable",
+            "3 any order",
+            "4 held and new",
+            "held once",
+            "5 on any sets",
+            "words",
+            "round type-without-positions"
+        ]
+    );
+}
+
+#[test]
+fn taking_all_marked_first_is_another_stable_and_truthful_rule_turned_back_by_the_words() {
+    assert_eq!(
+        turned_back(&AllMarkedFirst),
+        ["words", "round type-without-positions"]
+    );
 }

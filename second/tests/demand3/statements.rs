@@ -232,6 +232,25 @@ pub fn held_and_new_suffice<R: Rule + ?Sized>(round: &Round, rule: &R) -> Found 
     Ok(())
 }
 
+/// That at every turn nobody is held twice, by two institutes or by one.
+pub fn held_once<R: Rule + ?Sized>(round: &Round, rule: &R) -> Found {
+    let mut process = Process::new(round, rule);
+    while let Some(&candidate) = process.ready().first() {
+        process.turn(candidate);
+        let mut holding: Vec<usize> = process
+            .held
+            .iter()
+            .flatten()
+            .map(|taken| taken.offer.candidate)
+            .collect();
+        holding.sort();
+        if holding.windows(2).any(|pair| pair[0] == pair[1]) {
+            return Err(format!("somebody is held twice: {round:?}"));
+        }
+    }
+    Ok(())
+}
+
 /// Statement 5 in the run of the offers: at every turn, the completion takes from all offers made the same offers at the same steps as the choice.
 pub fn completion_agrees_in_the_run<R: Rule + ?Sized>(round: &Round, rule: &R) -> Found {
     let mut process = Process::new(round, rule);

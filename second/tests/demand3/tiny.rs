@@ -33,20 +33,98 @@ pub fn some_row(random: &mut Random, mut entries: Vec<Entry>) -> Vec<Entry> {
 /// The codes in play in a round.
 const CODES: [&[u8]; 4] = [&[0, 3], &[3], &[0, 3, 3, 1], &[0, 1, 2, 3, 4]];
 
-/// The tiny round of a seed.
+/// The tiny round of a seed: for 0 a fixed one, for one in four of the others all open.
 pub fn tiny(seed: u64) -> Round {
     let mut random = Random::new(seed);
+    if seed == 0 {
+        brought_back()
+    } else if seed % 4 == 3 {
+        all_open(&mut random)
+    } else {
+        of_several_categories(&mut random)
+    }
+}
+
+/// A round in which candidate 2 is rejected and goes to the other institute, and would be brought back by candidate 4 if a marked candidate were taken first whose type has no positions.
+fn brought_back() -> Round {
+    let institute = |positions: usize, second: usize| Institute {
+        positions: [positions, 0, 0, 0, 0],
+        reserved: std::array::from_fn(|category| vec![0, if category == 0 { second } else { 0 }]),
+    };
+    let candidate = |marks: u8, entries: usize| Candidate {
+        code: OPEN,
+        marks,
+        row: lawful_entries(OPEN, entries),
+    };
+    Round {
+        types: 2,
+        policy: 0,
+        institutes: vec![institute(2, 1), institute(1, 0)],
+        candidates: vec![
+            candidate(1, 1),
+            candidate(0, 2),
+            candidate(2, 1),
+            candidate(2, 1),
+        ],
+        merit: vec![vec![3, 1, 0, 2], vec![1]],
+    }
+}
+
+/// A round of 4 or 5 candidates listing open at one or both of two institutes, the first having 2 or 3 positions with some reserved for one of two types.
+fn all_open(random: &mut Random) -> Round {
+    let n = random.from_to(4, 5);
+    let mut institutes = Vec::new();
+    for positions in [random.from_to(2, 3), random.from_to(0, 2)] {
+        let mut institute = Institute {
+            positions: [positions, 0, 0, 0, 0],
+            reserved: std::array::from_fn(|_| vec![0; 2]),
+        };
+        institute.reserved[0][random.from_to(0, 1)] = random.from_to(0, positions);
+        institutes.push(institute);
+    }
+    let candidates = (0..n)
+        .map(|_| {
+            let mut row = lawful_entries(OPEN, 2);
+            if random.one_in(4) {
+                row.reverse();
+            }
+            row.truncate(random.pick(&[1, 2, 2, 2]));
+            Candidate {
+                code: OPEN,
+                marks: random.pick(&[0, 1, 2, 3]),
+                row,
+            }
+        })
+        .collect();
+    let merit = (0..2)
+        .map(|_| {
+            let mut list: Vec<usize> = (0..n).collect();
+            random.shuffle(&mut list);
+            list
+        })
+        .collect();
+    Round {
+        types: 2,
+        policy: 0,
+        institutes,
+        candidates,
+        merit,
+    }
+}
+
+/// A round of candidates of several categories, many listing open and their own at one institute.
+fn of_several_categories(random: &mut Random) -> Round {
     let n = random.from_to(2, 5);
     let m = random.pick(&[1, 1, 2, 2, 3]);
     let types = random.pick(&[0, 1, 2, 2, 3]);
-    let policy = random.from_to(0, 1) as u16;
+    let policy = random.pick(&[0, 1, 1]);
     let codes = random.pick(&CODES);
     let mut left = n;
     let institutes = (0..m)
-        .map(|_| some_institute(&mut random, types, codes, &mut left))
+        .map(|_| some_institute(random, types, codes, &mut left))
         .collect();
     let candidates = (0..n)
-        .map(|_| some_candidate(&mut random, m, types, codes))
+        .map(|_| some_candidate(random, m, types, codes))
         .collect();
     let mut common: Vec<usize> = (0..n).collect();
     random.shuffle(&mut common);
