@@ -101,6 +101,7 @@ fn lawful_files_are_lawful_and_read_back() {
         (Class::Mid, 50),
         (Class::Maximal, 3),
         (Class::Contested, 3),
+        (Class::Crowded, 5),
     ] {
         for seed in 0..seeds {
             let round = lawful_round(class, seed);

@@ -6,7 +6,7 @@ use std::path::Path;
 use std::process::ExitCode;
 
 const USAGE: &str = "generate CLASS SEED [COUNT] [--into DIR]
-CLASS is tiny, small, mid, maximal, contested, refused-1 to refused-13, damaged (any of these), two-faults or boundary.
+CLASS is tiny, small, mid, maximal, contested, crowded, refused-1 to refused-13, damaged (any of these), two-faults or boundary.
 Without --into, one file goes to standard output. With it, COUNT files for SEED and the seeds after it go to DIR,
 beside each refused one the line it is made for. The files of boundary are fixed: SEED is the number of the first, and all are COUNT.";
 
@@ -62,8 +62,9 @@ fn make(class: &str, seed: u64) -> Option<Made> {
     }
 }
 
-/// Writes a made file, and the refusal it is made for, to a folder.
+/// Writes a made file, and the refusal it is made for, to a folder, which is made where it is missing.
 fn put(folder: &Path, made: &Made) -> io::Result<()> {
+    std::fs::create_dir_all(folder)?;
     std::fs::write(folder.join(format!("{}.round", made.name)), &made.file)?;
     if let Some((number, offset)) = made.refusal {
         let line = format!("refused {number} at {offset}\n");

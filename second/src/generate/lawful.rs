@@ -17,16 +17,19 @@ pub enum Class {
     Maximal,
     /// As maximal, with like rows and merit against the order of going, so that held candidates are displaced in long chains.
     Contested,
+    /// 512 candidates at 1 or 2 institutes with hundreds of positions, most of them reserved for 8 types.
+    Crowded,
 }
 
 impl Class {
     /// All classes.
-    pub const ALL: [Class; 5] = [
+    pub const ALL: [Class; 6] = [
         Class::Tiny,
         Class::Small,
         Class::Mid,
         Class::Maximal,
         Class::Contested,
+        Class::Crowded,
     ];
 
     /// The name of the class.
@@ -37,6 +40,7 @@ impl Class {
             Class::Mid => "mid",
             Class::Maximal => "maximal",
             Class::Contested => "contested",
+            Class::Crowded => "crowded",
         }
     }
 }
@@ -66,7 +70,7 @@ fn shape(class: Class) -> Shape {
             candidates: (2, 5),
             institutes: (1, 3),
             types: (0, 3),
-            positions: (0, 1),
+            positions: (0, 2),
             entries: (0, 6),
             absent: 10,
             against: false,
@@ -107,6 +111,15 @@ fn shape(class: Class) -> Shape {
             absent: 0,
             against: true,
         },
+        Class::Crowded => Shape {
+            candidates: (512, 512),
+            institutes: (1, 2),
+            types: (8, 8),
+            positions: (20, 200),
+            entries: (1, 4),
+            absent: 50,
+            against: false,
+        },
     }
 }
 
@@ -124,6 +137,7 @@ pub fn lawful_round(class: Class, seed: u64) -> Round {
     let m = span(shape.institutes);
     let types = span(shape.types);
     let policy = span((0, 1)) as u16;
+    let thin = span((0, 3));
     Round {
         types,
         policy,
@@ -131,7 +145,7 @@ pub fn lawful_round(class: Class, seed: u64) -> Round {
             .map(|_| some_institute(&mut random, types, &shape))
             .collect(),
         candidates: (0..n)
-            .map(|_| some_candidate(&mut random, m, types, &shape))
+            .map(|_| some_candidate(&mut random, m, types, thin, &shape))
             .collect(),
         merit: (0..m).map(|_| some_merit(&mut random, n, &shape)).collect(),
     }
@@ -160,10 +174,19 @@ fn some_institute(random: &mut Random, types: usize, shape: &Shape) -> Institute
     institute
 }
 
-/// A candidate, OBC more often than another category, with a row that may list open and own category of one institute.
-fn some_candidate(random: &mut Random, m: usize, types: usize, shape: &Shape) -> Candidate {
+/// A candidate, OBC more often than another category, with fewer marks the thinner they are, and with a row that may list open and own category of one institute.
+fn some_candidate(
+    random: &mut Random,
+    m: usize,
+    types: usize,
+    thin: usize,
+    shape: &Shape,
+) -> Candidate {
     let code = random.pick(&[0, 0, 1, 2, 3, 3, 3, 4]);
-    let marks = random.from_to(0, (1 << types) - 1) as u8;
+    let mut marks = random.from_to(0, (1 << types) - 1) as u8;
+    for _ in 0..thin {
+        marks &= random.bits() as u8;
+    }
     let mut entries: Vec<Entry> = Vec::new();
     for institute in 0..m {
         for category in if code == OPEN {
