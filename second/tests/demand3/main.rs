@@ -317,3 +317,53 @@ fn taking_all_marked_first_is_another_stable_and_truthful_rule_turned_back_by_th
         ["words", "round type-without-positions"]
     );
 }
+
+#[test]
+fn seating_nobody_is_truthful_and_fails_stability() {
+    let nobody = |round: &Round| vec![None; round.candidates.len()];
+    let mut unstable = 0;
+    for seed in 0..200 {
+        let round = tiny(seed);
+        assert_eq!(truthful(&round, &nobody, &mut Random::new(seed)), Ok(()));
+        unstable += u64::from(stable(&round, &Document, &nobody(&round)).is_err());
+    }
+    assert!(unstable > 100, "{unstable}");
+}
+
+#[test]
+fn seating_by_number_fails_stability() {
+    let by_number = |round: &Round| -> Vec<Option<Seat>> {
+        let open = round.institutes[0].positions[0];
+        let first = Seat {
+            institute: 0,
+            step: 1,
+        };
+        (0..round.candidates.len())
+            .map(|candidate| (candidate < open).then_some(first))
+            .collect()
+    };
+    let found = |seed| {
+        let round = tiny(seed);
+        stable(&round, &Document, &by_number(&round)).is_err()
+    };
+    assert!((0..200).filter(|&seed| found(seed)).count() > 100);
+}
+
+#[test]
+fn giving_first_choices_only_fails_stability_or_truth() {
+    let first_only = |round: &Round| {
+        let mut short = round.clone();
+        for candidate in &mut short.candidates {
+            candidate.row.truncate(1);
+        }
+        allot(&short, &Document).seats
+    };
+    let mut caught = (0, 0);
+    for seed in 0..400 {
+        let round = tiny(seed);
+        let gains = truthful(&round, &first_only, &mut Random::new(seed)).is_err();
+        let blocked = stable(&round, &Document, &first_only(&round)).is_err();
+        caught = (caught.0 + u64::from(gains), caught.1 + u64::from(blocked));
+    }
+    assert!(caught.0 > 0 && caught.1 > 0, "{caught:?}");
+}
