@@ -25,10 +25,10 @@ use wrong::{
 };
 
 /// How many rounds each statement is run over.
-const ROUNDS: u64 = 6000;
+const ROUNDS: u64 = 5000;
 
 /// How many rounds a wrong rule has to pass before it counts as not turned back.
-const WRONG_ROUNDS: u64 = 1500;
+const WRONG_ROUNDS: u64 = 1000;
 
 /// The list that stands in the answer area after an allotment call on the round's file, whatever the lent areas hold.
 fn list_of_call(round: &Round, random: &mut Random) -> Vec<Option<Seat>> {
@@ -350,7 +350,7 @@ fn seating_by_number_fails_stability() {
 }
 
 #[test]
-fn giving_first_choices_only_fails_stability_or_truth() {
+fn giving_first_choices_only_fails_stability_and_truth() {
     let first_only = |round: &Round| {
         let mut short = round.clone();
         for candidate in &mut short.candidates {

@@ -51,7 +51,7 @@ fn other_rows(random: &mut Random, code: u8, institutes: usize) -> Vec<Vec<Entry
     if entries.len() <= 4 {
         all_rows(&entries)
     } else {
-        (0..60).map(|_| some_row(random, entries.clone())).collect()
+        (0..40).map(|_| some_row(random, entries.clone())).collect()
     }
 }
 
