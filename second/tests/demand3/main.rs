@@ -28,7 +28,7 @@ use wrong::{
 const ROUNDS: u64 = 5000;
 
 /// How many rounds a wrong rule has to pass before it counts as not turned back.
-const WRONG_ROUNDS: u64 = 1000;
+const WRONG_ROUNDS: u64 = 1500;
 
 /// The list that stands in the answer area after an allotment call on the round's file, whatever the lent areas hold.
 fn list_of_call(round: &Round, random: &mut Random) -> Vec<Option<Seat>> {
