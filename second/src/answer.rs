@@ -1,0 +1,122 @@
+//! The call: what it answers and what both areas hold after it.
+
+use crate::choice::Document;
+use crate::offers::{allot, Allotment};
+use crate::reading::{read, Refusal, Round};
+
+/// What a call answers; the answer bytes are the first 2n + 12m of the answer area, none where the call takes no answer area.
+#[derive(Clone, Debug, PartialEq, Eq)]
+pub enum Outcome {
+    Allotted { offers: usize, answer: Vec<u8> },
+    Refused { number: u8, offset: usize },
+}
+
+impl From<Refusal> for Outcome {
+    fn from(refusal: Refusal) -> Self {
+        Outcome::Refused {
+            number: refusal.number,
+            offset: refusal.offset,
+        }
+    }
+}
+
+/// The refusal of areas that are too small.
+const TOO_SMALL: Refusal = Refusal {
+    number: 14,
+    offset: 0,
+};
+
+/// The bytes of the answer area a round needs.
+pub fn answer_bytes(round: &Round) -> usize {
+    2 * round.candidates.len() + 12 * round.institutes.len()
+}
+
+/// The bytes of the work area a round needs.
+pub fn work_bytes(round: &Round) -> usize {
+    8 * round.candidates.len()
+}
+
+/// For each institute, the largest merit place among those seated at each of the six steps, 0 if nobody.
+pub fn closing_places(round: &Round, allotment: &Allotment) -> Vec<[usize; 6]> {
+    let mut places = vec![[0; 6]; round.institutes.len()];
+    for (institute, merit) in round.merit.iter().enumerate() {
+        for (place, &candidate) in merit.iter().enumerate() {
+            if let Some(seat) = allotment.seats[candidate] {
+                if seat.institute == institute {
+                    places[institute][usize::from(seat.step) - 1] = place + 1;
+                }
+            }
+        }
+    }
+    places
+}
+
+/// The bytes written to the answer area.
+pub fn answer_of(round: &Round, allotment: &Allotment) -> Vec<u8> {
+    let mut bytes = Vec::new();
+    for seat in &allotment.seats {
+        match seat {
+            Some(seat) => bytes.extend([seat.institute as u8 + 1, seat.step]),
+            None => bytes.extend([0, 0]),
+        }
+    }
+    for places in closing_places(round, allotment) {
+        for place in places {
+            bytes.extend((place as u16).to_le_bytes());
+        }
+    }
+    bytes
+}
+
+/// The outcome of a call with areas of these lengths.
+pub fn call(file: &[u8], answer_len: usize, work_len: usize) -> Outcome {
+    let round = match read(file) {
+        Ok(round) => round,
+        Err(refusal) => return refusal.into(),
+    };
+    if answer_len < answer_bytes(&round) || work_len < work_bytes(&round) {
+        return TOO_SMALL.into();
+    }
+    let allotment = allot(&round, &Document);
+    Outcome::Allotted {
+        offers: allotment.offers,
+        answer: answer_of(&round, &allotment),
+    }
+}
+
+/// The outcome of a call that takes no answer area and a work area of this length.
+pub fn call_without_answer(file: &[u8], work_len: usize) -> Outcome {
+    match call(file, usize::MAX, work_len) {
+        Outcome::Allotted { offers, .. } => Outcome::Allotted {
+            offers,
+            answer: Vec::new(),
+        },
+        refused => refused,
+    }
+}
+
+/// Makes the call on two lent areas and leaves in them what the document says.
+pub fn call_on(file: &[u8], answer: &mut [u8], work: &mut [u8]) -> Outcome {
+    let outcome = call(file, answer.len(), work.len());
+    if let Outcome::Allotted { answer: bytes, .. } = &outcome {
+        answer[..bytes.len()].copy_from_slice(bytes);
+        clear_work(file, work);
+    }
+    outcome
+}
+
+/// Makes the call that takes no answer area on a lent work area.
+pub fn call_without_answer_on(file: &[u8], work: &mut [u8]) -> Outcome {
+    let outcome = call_without_answer(file, work.len());
+    if let Outcome::Allotted { .. } = &outcome {
+        clear_work(file, work);
+    }
+    outcome
+}
+
+/// Sets the first 8n work bytes to 0.
+fn clear_work(file: &[u8], work: &mut [u8]) {
+    if let Ok(round) = read(file) {
+        work[..work_bytes(&round)].fill(0);
+    }
+}

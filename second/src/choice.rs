@@ -1,0 +1,174 @@
+//! One institute chooses: what its steps give from any set of offers to it.
+
+use crate::horizontal::use_of;
+use crate::reading::{Round, OBC, OPEN};
+
+/// An offer to a known institute: a candidate, counted from 0, and the category of the entry.
+#[derive(Clone, Copy, Debug, PartialEq, Eq, PartialOrd, Ord, Hash)]
+pub struct Offer {
+    pub candidate: usize,
+    pub category: u8,
+}
+
+/// An offer that was taken, with its step.
+#[derive(Clone, Copy, Debug, PartialEq, Eq, PartialOrd, Ord, Hash)]
+pub struct Taken {
+    pub offer: Offer,
+    pub step: u8,
+}
+
+/// What happens to candidates taken at an earlier step.
+#[derive(Clone, Copy, Debug, PartialEq, Eq)]
+pub enum Earlier {
+    /// They are left out, as the choice does.
+    LeftOut,
+    /// Only the offer taken is left out, as the completion does.
+    OfferLeftOut,
+}
+
+/// What is given to one step: those it considers, in merit order, with the marks of each, its positions and the reserved ones.
+pub struct Step<'a> {
+    pub considered: Vec<usize>,
+    pub marks: Vec<u8>,
+    pub positions: usize,
+    pub reserved: &'a [usize],
+}
+
+/// The category a step considers.
+pub fn category_of(step: u8) -> u8 {
+    match step {
+        1 | 6 => OPEN,
+        _ => step - 1,
+    }
+}
+
+/// The rule by which institutes choose; what is written here is the document's.
+pub trait Rule {
+    /// Those taken within one step, as places in the list of those considered.
+    fn within(&self, step: &Step) -> Vec<usize> {
+        let mut taken = raising(step);
+        fill_by_merit(step, &mut taken);
+        taken
+    }
+
+    /// The positions of step 6, from those of step 4 and how many of these were taken.
+    fn dereserved(&self, positions: usize, taken: usize) -> usize {
+        positions - taken
+    }
+
+    /// The offers an institute takes from a set of offers, in order of candidates, with their steps.
+    fn choose(&self, round: &Round, institute: usize, offers: &[Offer]) -> Vec<Taken> {
+        steps(self, round, institute, offers, Earlier::LeftOut)
+    }
+
+    /// What the completion of the choice takes from a set of offers.
+    fn complete(&self, round: &Round, institute: usize, offers: &[Offer]) -> Vec<Taken> {
+        steps(self, round, institute, offers, Earlier::OfferLeftOut)
+    }
+}
+
+/// The rule as the document says it.
+pub struct Document;
+
+impl Rule for Document {}
+
+/// Goes down the merit list and takes each candidate who raises the use of those taken.
+pub fn raising(step: &Step) -> Vec<usize> {
+    let mut taken = Vec::new();
+    let mut marks = Vec::new();
+    let mut used = use_of(&marks, step.reserved);
+    for place in 0..step.considered.len() {
+        marks.push(step.marks[place]);
+        let with = use_of(&marks, step.reserved);
+        if with > used {
+            taken.push(place);
+            used = with;
+        } else {
+            marks.pop();
+        }
+    }
+    taken
+}
+
+/// Fills the remaining positions by merit with those left.
+pub fn fill_by_merit(step: &Step, taken: &mut Vec<usize>) {
+    for place in 0..step.considered.len() {
+        if taken.len() < step.positions && !taken.contains(&place) {
+            taken.push(place);
+        }
+    }
+}
+
+/// Runs the steps of one institute over a set of offers, under a rule.
+pub fn steps<R: Rule + ?Sized>(
+    rule: &R,
+    round: &Round,
+    institute: usize,
+    offers: &[Offer],
+    earlier: Earlier,
+) -> Vec<Taken> {
+    let own = &round.institutes[institute];
+    let none = vec![0; round.types];
+    let last = if round.policy == 1 { 6 } else { 5 };
+    let mut taken: Vec<Taken> = Vec::new();
+    for number in 1..=last {
+        let category = category_of(number);
+        let (positions, reserved) = if number == 6 {
+            let filled = taken.iter().filter(|one| one.step == 4).count();
+            let positions = rule.dereserved(own.positions[usize::from(OBC)], filled);
+            (positions, &none)
+        } else {
+            let category = usize::from(category);
+            (own.positions[category], &own.reserved[category])
+        };
+        let considered = considered(&round.merit[institute], offers, category, &taken, earlier);
+        let marks = considered
+            .iter()
+            .map(|&candidate| round.candidates[candidate].marks)
+            .collect();
+        let step = Step {
+            considered,
+            marks,
+            positions,
+            reserved,
+        };
+        for place in rule.within(&step) {
+            taken.push(Taken {
+                offer: Offer {
+                    candidate: step.considered[place],
+                    category,
+                },
+                step: number,
+            });
+        }
+    }
+    taken.sort();
+    taken
+}
+
+/// The candidates on the merit list, in its order, who offer this category and are not left out.
+fn considered(
+    merit: &[usize],
+    offers: &[Offer],
+    category: u8,
+    taken: &[Taken],
+    earlier: Earlier,
+) -> Vec<usize> {
+    let people = merit.iter().max().map_or(0, |largest| largest + 1);
+    let mut offering = vec![false; people];
+    for offer in offers {
+        if offer.category == category && offer.candidate < people {
+            offering[offer.candidate] = true;
+        }
+    }
+    for one in taken {
+        if earlier == Earlier::LeftOut || one.offer.category == category {
+            offering[one.offer.candidate] = false;
+        }
+    }
+    merit
+        .iter()
+        .copied()
+        .filter(|&candidate| offering[candidate])
+        .collect()
+}

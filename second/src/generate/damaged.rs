@@ -1,0 +1,287 @@
+//! Damaged files: each is a lawful file changed so that a known question is the first answered no.
+
+use super::lawful::{lawful_round, Class};
+use crate::random::Random;
+use crate::reading::{Candidate, Entry, Round, OPEN};
+use crate::writing::records;
+
+/// A damaged file with the refusal it was made for.
+#[derive(Clone, Debug, PartialEq, Eq)]
+pub struct Damaged {
+    pub file: Vec<u8>,
+    pub number: u8,
+    pub offset: usize,
+}
+
+/// A round with something to damage in each record: 1 to 7 types, rows of at least two entries, whole merit lists of at least two candidates.
+fn base(random: &mut Random) -> Round {
+    loop {
+        let mut round = lawful_round(Class::Small, random.bits());
+        let n = round.candidates.len();
+        if n < 2 || !(1..=7).contains(&round.types) {
+            continue;
+        }
+        for candidate in &mut round.candidates {
+            lengthen(candidate);
+        }
+        for list in &mut round.merit {
+            *list = (0..n).collect();
+            random.shuffle(list);
+        }
+        return round;
+    }
+}
+
+/// Gives a candidate a row of at least two entries, by code 1 at institute 1 where there are fewer.
+fn lengthen(candidate: &mut Candidate) {
+    if candidate.row.len() < 2 {
+        candidate.code = 1;
+        candidate.row = [OPEN, 1]
+            .map(|category| Entry {
+                institute: 0,
+                category,
+            })
+            .to_vec();
+    }
+}
+
+/// The kind of the record at a place of the file order.
+fn kind_at(round: &Round, place: usize) -> usize {
+    let m = round.institutes.len();
+    match place {
+        0 => 1,
+        _ if place <= m => 2,
+        _ if place <= m + round.candidates.len() => 3,
+        _ => 4,
+    }
+}
+
+/// Writes a two-byte number at a place.
+fn put(bytes: &mut [u8], at: usize, number: usize) {
+    bytes[at..at + 2].copy_from_slice(&(number as u16).to_le_bytes());
+}
+
+/// The two-byte number at a place.
+fn get(bytes: &[u8], at: usize) -> usize {
+    usize::from(bytes[at]) + 256 * usize::from(bytes[at + 1])
+}
+
+/// The kind of record that a question is put to, where it is only one kind.
+fn kind_asked(number: u8) -> Option<usize> {
+    match number {
+        5 => Some(1),
+        6 | 7 => Some(2),
+        8..=10 => Some(3),
+        11 | 12 => Some(4),
+        _ => None,
+    }
+}
+
+/// Damages one record so that a question from 2, 3 and 5 to 12 is the first of its questions answered no.
+fn damage(random: &mut Random, round: &Round, record: &mut [u8], number: u8) {
+    let n = round.candidates.len();
+    let m = round.institutes.len();
+    let types = round.types;
+    match number {
+        2 => damage_kind(random, record),
+        3 => damage_length(random, n, record),
+        5 => {
+            let (field, value) = random.pick(&[
+                (0, 0),
+                (0, 513),
+                (0, 65_535),
+                (1, 0),
+                (1, 33),
+                (1, 256),
+                (2, 9),
+                (2, 65_535),
+                (3, 2),
+                (3, 256),
+            ]);
+            put(record, 4 + 2 * field, value);
+        }
+        6 => {
+            let category = random.from_to(0, 4);
+            let others: usize = (0..5)
+                .filter(|&other| other != category)
+                .map(|other| get(record, 4 + other * 2 * (1 + types)))
+                .sum();
+            // The last of these sums to a small number where sums wrap.
+            let wrapping = if others > 0 { 65_536 - others } else { 65_535 };
+            let value = random.pick(&[1025 - others, 1026, 65_535, wrapping]);
+            put(record, 4 + category * 2 * (1 + types), value);
+        }
+        7 => {
+            let category = random.from_to(0, 4);
+            let start = 4 + category * 2 * (1 + types);
+            let held = random.from_to(1, types);
+            let others: usize = (1..=types)
+                .filter(|&other| other != held)
+                .map(|other| get(record, start + 2 * other))
+                .sum();
+            let positions = get(record, start);
+            // The last of these sums to a small number where sums wrap.
+            let wrapping = if others > 0 { 65_536 - others } else { 65_535 };
+            let value = random.pick(&[positions + 1 - others, positions + 1, 65_535, wrapping]);
+            put(record, start + 2 * held, value);
+        }
+        8 => {
+            if random.one_in(2) {
+                record[4] = random.from_to(5, 255) as u8;
+            } else {
+                record[5] |= 1 << random.from_to(types, 7);
+            }
+        }
+        9 => {
+            let entry = 6 + 2 * random.from_to(0, (record.len() - 6) / 2 - 1);
+            match random.from_to(1, 3) {
+                1 => record[entry] = 0,
+                2 => record[entry] = random.from_to(m + 1, 255) as u8,
+                _ => {
+                    let wrong: Vec<u8> = (1..=255).filter(|&code| code != record[4]).collect();
+                    record[entry + 1] = if random.one_in(2) {
+                        wrong[random.from_to(0, 3)]
+                    } else {
+                        random.pick(&wrong)
+                    };
+                }
+            }
+        }
+        10 => copy_pair(random, record, 6),
+        11 => {
+            let at = 4 + 2 * random.from_to(0, (record.len() - 4) / 2 - 1);
+            let value = random.pick(&[0, n + 1, 65_535]);
+            put(record, at, value);
+        }
+        12 => copy_pair(random, record, 4),
+        _ => unreachable!("this question is not about what one record holds"),
+    }
+}
+
+/// Makes the kind another one.
+fn damage_kind(random: &mut Random, record: &mut [u8]) {
+    let due = get(record, 2);
+    let others: Vec<usize> = [0, 1, 2, 3, 4, 5, due + 256, 65_535]
+        .into_iter()
+        .filter(|&kind| kind != due)
+        .collect();
+    let kind = random.pick(&others);
+    put(record, 2, kind);
+}
+
+/// Makes the length one the table does not allow.
+fn damage_length(random: &mut Random, n: usize, record: &mut [u8]) {
+    let due = get(record, 0);
+    let lengths = match get(record, 2) {
+        3 => vec![0, 1, 3, 33, 35, 36, due + 1, 65_535],
+        4 => vec![1, due + 1, 2 * n + 1, 2 * n + 2, 65_535],
+        _ => vec![0, due - 2, due - 1, due + 1, due + 2, 65_535],
+    };
+    let length = random.pick(&lengths);
+    put(record, 0, length);
+}
+
+/// Copies one pair of bytes over another one of the list that begins at a place.
+fn copy_pair(random: &mut Random, record: &mut [u8], start: usize) {
+    let count = (record.len() - start) / 2;
+    let from = random.from_to(0, count - 1);
+    let to = (from + random.from_to(1, count - 1)) % count;
+    let (first, second) = (record[start + 2 * from], record[start + 2 * from + 1]);
+    record[start + 2 * to] = first;
+    record[start + 2 * to + 1] = second;
+}
+
+/// The offset of the record at a place of the file order.
+fn offset_of(records: &[Vec<u8>], place: usize) -> usize {
+    records[..place].iter().map(Vec::len).sum()
+}
+
+/// A place whose record can be asked the question.
+fn some_place(random: &mut Random, round: &Round, records: &[Vec<u8>], number: u8) -> usize {
+    loop {
+        let place = random.from_to(0, records.len() - 1);
+        let asked = kind_asked(number);
+        if asked.is_none() || asked == Some(kind_at(round, place)) {
+            return place;
+        }
+    }
+}
+
+/// A file whose first question answered no is the one with this number, from 1 to 13.
+pub fn damaged(number: u8, seed: u64) -> Damaged {
+    let mut random = Random::new(seed);
+    let round = base(&mut random);
+    let mut records = records(&round);
+    let place = some_place(&mut random, &round, &records, number);
+    let offset = offset_of(&records, place);
+    match number {
+        1 | 4 => {
+            let length = records[place].len();
+            let kept = match number {
+                1 => random.from_to(0, 3),
+                _ => random.from_to(4, length - 1),
+            };
+            let file = records.concat()[..offset + kept].to_vec();
+            Damaged {
+                file,
+                number,
+                offset,
+            }
+        }
+        13 => {
+            let offset = offset_of(&records, records.len());
+            let mut file = records.concat();
+            for _ in 0..random.from_to(1, 20) {
+                file.push(random.from_to(0, 255) as u8);
+            }
+            Damaged {
+                file,
+                number,
+                offset,
+            }
+        }
+        _ => {
+            damage(&mut random, &round, &mut records[place], number);
+            Damaged {
+                file: records.concat(),
+                number,
+                offset,
+            }
+        }
+    }
+}
+
+/// A file with two faults, in one record or in two; the first decides.
+pub fn two_faults(seed: u64) -> Damaged {
+    let mut random = Random::new(seed);
+    let round = base(&mut random);
+    let mut records = records(&round);
+    let numbers = [2, 3, 5, 6, 7, 8, 9, 10, 11, 12];
+    let first = random.pick(&numbers);
+    let place = some_place(&mut random, &round, &records, first);
+    let (second, other) = loop {
+        let second = random.pick(&numbers);
+        let other = if random.one_in(2) {
+            place
+        } else {
+            some_place(&mut random, &round, &records, second)
+        };
+        let asked = kind_asked(second);
+        let fits = asked.is_none() || asked == Some(kind_at(&round, other));
+        if fits && (second, other) != (first, place) {
+            break (second, other);
+        }
+    };
+    let mut faults = [(place, first), (other, second)];
+    faults.sort();
+    let offset = offset_of(&records, faults[0].0);
+    // The later fault is made first, so that the earlier one is there in the end.
+    for (at, number) in [faults[1], faults[0]] {
+        damage(&mut random, &round, &mut records[at], number);
+    }
+    Damaged {
+        file: records.concat(),
+        number: faults[0].1,
+        offset,
+    }
+}

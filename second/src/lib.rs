@@ -1,0 +1,13 @@
+//! The second program: seats and offers of a round file, made from the documents alone.
+
+pub mod answer;
+pub mod choice;
+pub mod generate;
+pub mod horizontal;
+pub mod offers;
+pub mod printing;
+pub mod random;
+pub mod reading;
+pub mod writing;
+
+pub use answer::{call, call_on, call_without_answer, call_without_answer_on, Outcome};

@@ -1,0 +1,199 @@
+//! Reading a round file: questions 1 to 13, put to each record in file order.
+
+/// The number of bytes of the longest lawful file.
+pub const LONGEST: usize = 55_372;
+
+/// The category code of open.
+pub const OPEN: u8 = 0;
+
+/// The category code of OBC.
+pub const OBC: u8 = 3;
+
+/// An institute, counted from 0, together with a category code.
+#[derive(Clone, Copy, Debug, PartialEq, Eq, PartialOrd, Ord, Hash)]
+pub struct Entry {
+    pub institute: usize,
+    pub category: u8,
+}
+
+/// The positions of an institute, for each category code in all and reserved for each type.
+#[derive(Clone, Debug, PartialEq, Eq)]
+pub struct Institute {
+    pub positions: [usize; 5],
+    pub reserved: [Vec<usize>; 5],
+}
+
+/// A candidate's code, marks and row of entries, best first.
+#[derive(Clone, Debug, PartialEq, Eq)]
+pub struct Candidate {
+    pub code: u8,
+    pub marks: u8,
+    pub row: Vec<Entry>,
+}
+
+/// What a round file says; the merit lists hold candidates counted from 0, best first.
+#[derive(Clone, Debug, PartialEq, Eq)]
+pub struct Round {
+    pub types: usize,
+    pub policy: u16,
+    pub institutes: Vec<Institute>,
+    pub candidates: Vec<Candidate>,
+    pub merit: Vec<Vec<usize>>,
+}
+
+/// The number of the question that was answered no, and the byte it stands at.
+#[derive(Clone, Copy, Debug, PartialEq, Eq)]
+pub struct Refusal {
+    pub number: u8,
+    pub offset: usize,
+}
+
+/// The file and the place of the next record in it.
+struct Reader<'a> {
+    file: &'a [u8],
+    at: usize,
+}
+
+/// A record's body and the offset of the record's first byte.
+struct Record<'a> {
+    body: &'a [u8],
+    offset: usize,
+}
+
+impl Record<'_> {
+    /// Goes on where the question is answered yes, else refuses with its number at this record.
+    fn ask(&self, number: u8, yes: bool) -> Result<(), Refusal> {
+        ask(number, self.offset, yes)
+    }
+
+    /// The two-byte numbers of the body.
+    fn numbers(&self) -> Vec<usize> {
+        self.body
+            .chunks_exact(2)
+            .map(|pair| two_bytes(pair, 0))
+            .collect()
+    }
+}
+
+/// Goes on where the question is answered yes, else refuses with its number at the offset.
+fn ask(number: u8, offset: usize, yes: bool) -> Result<(), Refusal> {
+    if yes {
+        Ok(())
+    } else {
+        Err(Refusal { number, offset })
+    }
+}
+
+/// The unsigned little-endian number in the two bytes at a place.
+fn two_bytes(bytes: &[u8], at: usize) -> usize {
+    usize::from(bytes[at]) + 256 * usize::from(bytes[at + 1])
+}
+
+/// Whether no value stands twice in the list.
+fn all_different<T: PartialEq>(list: &[T]) -> bool {
+    (0..list.len()).all(|here| !list[..here].contains(&list[here]))
+}
+
+impl<'a> Reader<'a> {
+    /// Puts questions 1 to 4 to the record at this place and moves behind it.
+    fn record(
+        &mut self,
+        kind: usize,
+        allowed: impl Fn(usize) -> bool,
+    ) -> Result<Record<'a>, Refusal> {
+        let offset = self.at;
+        let rest = &self.file[offset..];
+        ask(1, offset, rest.len() >= 4)?;
+        let length = two_bytes(rest, 0);
+        ask(2, offset, two_bytes(rest, 2) == kind)?;
+        ask(3, offset, allowed(length))?;
+        ask(4, offset, rest.len() - 4 >= length)?;
+        self.at = offset + 4 + length;
+        Ok(Record {
+            body: &rest[4..4 + length],
+            offset,
+        })
+    }
+}
+
+/// Reads a whole file, or tells the first question that was answered no.
+pub fn read(file: &[u8]) -> Result<Round, Refusal> {
+    let mut reader = Reader { file, at: 0 };
+
+    let head = reader.record(1, |length| length == 8)?;
+    let numbers = head.numbers();
+    let (n, m, types, policy) = (numbers[0], numbers[1], numbers[2], numbers[3]);
+    let in_range = (1..=512).contains(&n) && (1..=32).contains(&m) && types <= 8 && policy <= 1;
+    head.ask(5, in_range)?;
+
+    let mut institutes = Vec::new();
+    for _ in 0..m {
+        institutes.push(read_institute(&mut reader, types)?);
+    }
+    let mut candidates = Vec::new();
+    for _ in 0..n {
+        candidates.push(read_candidate(&mut reader, m, types)?);
+    }
+    let mut merit = Vec::new();
+    for _ in 0..m {
+        merit.push(read_merit(&mut reader, n)?);
+    }
+    ask(13, reader.at, reader.at == file.len())?;
+    Ok(Round {
+        types,
+        policy: policy as u16,
+        institutes,
+        candidates,
+        merit,
+    })
+}
+
+/// Reads one institute's record.
+fn read_institute(reader: &mut Reader, types: usize) -> Result<Institute, Refusal> {
+    let record = reader.record(2, |length| length == 10 + 10 * types)?;
+    let numbers = record.numbers();
+    let mut institute = Institute {
+        positions: [0; 5],
+        reserved: Default::default(),
+    };
+    for (category, part) in numbers.chunks_exact(1 + types).enumerate() {
+        institute.positions[category] = part[0];
+        institute.reserved[category] = part[1..].to_vec();
+    }
+    record.ask(6, institute.positions.iter().sum::<usize>() <= 1024)?;
+    let enough = (0..5).all(|category| {
+        institute.reserved[category].iter().sum::<usize>() <= institute.positions[category]
+    });
+    record.ask(7, enough)?;
+    Ok(institute)
+}
+
+/// Reads one candidate's record.
+fn read_candidate(reader: &mut Reader, m: usize, types: usize) -> Result<Candidate, Refusal> {
+    let record = reader.record(3, |length| (2..=34).contains(&length) && length % 2 == 0)?;
+    let (code, marks) = (record.body[0], record.body[1]);
+    let pairs: Vec<&[u8]> = record.body[2..].chunks_exact(2).collect();
+    record.ask(8, code <= 4 && usize::from(marks) < 1 << types)?;
+    let lawful = pairs.iter().all(|pair| {
+        (1..=m).contains(&usize::from(pair[0])) && (pair[1] == OPEN || pair[1] == code)
+    });
+    record.ask(9, lawful)?;
+    record.ask(10, all_different(&pairs))?;
+    let row = pairs
+        .iter()
+        .map(|pair| Entry {
+            institute: usize::from(pair[0]) - 1,
+            category: pair[1],
+        })
+        .collect();
+    Ok(Candidate { code, marks, row })
+}
+
+/// Reads one merit list's record.
+fn read_merit(reader: &mut Reader, n: usize) -> Result<Vec<usize>, Refusal> {
+    let record = reader.record(4, |length| length <= 2 * n && length % 2 == 0)?;
+    let numbers = record.numbers();
+    record.ask(11, numbers.iter().all(|number| (1..=n).contains(number)))?;
+    record.ask(12, all_different(&numbers))?;
+    Ok(numbers.iter().map(|number| number - 1).collect())
+}

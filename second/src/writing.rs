@@ -1,0 +1,67 @@
+//! Writing a round as a round file.
+
+use crate::reading::{Candidate, Institute, Round};
+
+/// The bytes of two-byte numbers.
+pub fn two_bytes(numbers: &[usize]) -> Vec<u8> {
+    numbers
+        .iter()
+        .flat_map(|&number| (number as u16).to_le_bytes())
+        .collect()
+}
+
+/// A record of a kind with a body.
+pub fn record(kind: usize, body: &[u8]) -> Vec<u8> {
+    let mut bytes = two_bytes(&[body.len(), kind]);
+    bytes.extend(body);
+    bytes
+}
+
+/// The head's record.
+pub fn head(n: usize, m: usize, types: usize, policy: usize) -> Vec<u8> {
+    record(1, &two_bytes(&[n, m, types, policy]))
+}
+
+/// An institute's record.
+pub fn institute(institute: &Institute) -> Vec<u8> {
+    let mut numbers = Vec::new();
+    for category in 0..5 {
+        numbers.push(institute.positions[category]);
+        numbers.extend(&institute.reserved[category]);
+    }
+    record(2, &two_bytes(&numbers))
+}
+
+/// A candidate's record.
+pub fn candidate(candidate: &Candidate) -> Vec<u8> {
+    let mut body = vec![candidate.code, candidate.marks];
+    for entry in &candidate.row {
+        body.extend([entry.institute as u8 + 1, entry.category]);
+    }
+    record(3, &body)
+}
+
+/// A merit list's record, from candidates counted from 0.
+pub fn merit(list: &[usize]) -> Vec<u8> {
+    let numbers: Vec<usize> = list.iter().map(|candidate| candidate + 1).collect();
+    record(4, &two_bytes(&numbers))
+}
+
+/// The records of a round in file order.
+pub fn records(round: &Round) -> Vec<Vec<u8>> {
+    let mut records = vec![head(
+        round.candidates.len(),
+        round.institutes.len(),
+        round.types,
+        usize::from(round.policy),
+    )];
+    records.extend(round.institutes.iter().map(institute));
+    records.extend(round.candidates.iter().map(candidate));
+    records.extend(round.merit.iter().map(|list| merit(list)));
+    records
+}
+
+/// The file of a round.
+pub fn write(round: &Round) -> Vec<u8> {
+    records(round).concat()
+}

@@ -1,0 +1,337 @@
+//! Demand 3 and what it rests on, as statements about one round; each tells the counterexample it finds.
+
+use crate::tiny::{lawful_entries, some_row};
+use second::choice::{category_of, Offer, Rule, Taken};
+use second::offers::{Allotment, Process, Seat};
+use second::random::Random;
+use second::reading::{Entry, Round, OBC};
+
+/// Nothing where the statement holds of the round, else the counterexample.
+pub type Found = Result<(), String>;
+
+/// The list an allotment of a round gives: each candidate's seat.
+pub type Lister<'a> = &'a dyn Fn(&Round) -> Vec<Option<Seat>>;
+
+/// The entry a seat stands for.
+fn entry_of(seat: Seat) -> Entry {
+    Entry {
+        institute: seat.institute,
+        category: category_of(seat.step),
+    }
+}
+
+/// The place of a seat in a row: that of its entry, below all entries where there is none, below that where the entry is not in the row.
+fn rank(row: &[Entry], seat: Option<Seat>) -> usize {
+    match seat {
+        None => row.len(),
+        Some(seat) => row
+            .iter()
+            .position(|&entry| entry == entry_of(seat))
+            .unwrap_or(row.len() + 1),
+    }
+}
+
+/// All rows over these entries, of any length and in any order.
+fn all_rows(entries: &[Entry]) -> Vec<Vec<Entry>> {
+    let mut rows = vec![Vec::new()];
+    for (place, &first) in entries.iter().enumerate() {
+        let mut others = entries.to_vec();
+        others.remove(place);
+        for mut row in all_rows(&others) {
+            row.insert(0, first);
+            rows.push(row);
+        }
+    }
+    rows
+}
+
+/// The rows a candidate might give instead: all of them where there are at most four entries, else some.
+fn other_rows(random: &mut Random, code: u8, institutes: usize) -> Vec<Vec<Entry>> {
+    let entries = lawful_entries(code, institutes);
+    if entries.len() <= 4 {
+        all_rows(&entries)
+    } else {
+        (0..40).map(|_| some_row(random, entries.clone())).collect()
+    }
+}
+
+/// Statement 1: judged by the round's row, no candidate is seated better for giving another row.
+pub fn truthful(round: &Round, list: Lister, random: &mut Random) -> Found {
+    let first = list(round);
+    for (number, candidate) in round.candidates.iter().enumerate() {
+        let own = rank(&candidate.row, first[number]);
+        for row in other_rows(random, candidate.code, round.institutes.len()) {
+            let mut other = round.clone();
+            other.candidates[number].row = row;
+            let second = list(&other);
+            if rank(&candidate.row, second[number]) < own {
+                return Err(format!(
+                    "candidate {} gains by {:?}: {round:?}",
+                    number + 1,
+                    other.candidates[number].row
+                ));
+            }
+        }
+    }
+    Ok(())
+}
+
+/// The offers an institute might get: each candidate with each entry of the row that names it.
+fn listed_offers(round: &Round, institute: usize) -> Vec<Offer> {
+    let mut offers = Vec::new();
+    for (candidate, one) in round.candidates.iter().enumerate() {
+        for entry in &one.row {
+            if entry.institute == institute {
+                offers.push(Offer {
+                    candidate,
+                    category: entry.category,
+                });
+            }
+        }
+    }
+    offers.sort();
+    offers
+}
+
+/// The offers of those taken.
+fn offers_of(taken: &[Taken]) -> Vec<Offer> {
+    let mut offers: Vec<Offer> = taken.iter().map(|one| one.offer).collect();
+    offers.sort();
+    offers
+}
+
+/// The subset of a list that the bits of a number pick.
+pub fn subset(list: &[Offer], bits: usize) -> Vec<Offer> {
+    (0..list.len())
+        .filter(|place| bits >> place & 1 == 1)
+        .map(|place| list[place])
+        .collect()
+}
+
+/// Two sets of offers together.
+fn together(one: &[Offer], other: &[Offer]) -> Vec<Offer> {
+    let mut all = [one, other].concat();
+    all.sort();
+    all.dedup();
+    all
+}
+
+/// The seats an institute gave, as offers taken with their steps.
+fn given(seats: &[Option<Seat>], institute: usize) -> Vec<Taken> {
+    let mut given = Vec::new();
+    for (candidate, seat) in seats.iter().enumerate() {
+        if let Some(seat) = seat.filter(|seat| seat.institute == institute) {
+            given.push(Taken {
+                offer: Offer {
+                    candidate,
+                    category: category_of(seat.step),
+                },
+                step: seat.step,
+            });
+        }
+    }
+    given
+}
+
+/// Whether an offer's entry stands later in its candidate's row than the candidate's seat does; where the candidate has no seat, no offer does.
+fn ranks_below(round: &Round, institute: usize, offer: Offer, seats: &[Option<Seat>]) -> bool {
+    let row = &round.candidates[offer.candidate].row;
+    let offered = row
+        .iter()
+        .position(|entry| entry.institute == institute && entry.category == offer.category);
+    match (offered, seats[offer.candidate]) {
+        (Some(offered), Some(seat)) => offered > rank(row, Some(seat)),
+        _ => false,
+    }
+}
+
+/// Statement 2: the list is stable.
+pub fn stable<R: Rule + ?Sized>(round: &Round, rule: &R, seats: &[Option<Seat>]) -> Found {
+    for (candidate, &seat) in seats.iter().enumerate() {
+        let row = &round.candidates[candidate].row;
+        if seat.is_some() && rank(row, seat) >= row.len() {
+            return Err(format!("a seat not listed: {round:?}"));
+        }
+    }
+    for institute in 0..round.institutes.len() {
+        let given = given(seats, institute);
+        let own = offers_of(&given);
+        if rule.choose(round, institute, &own) != given {
+            return Err(format!("other seats from just those given: {round:?}"));
+        }
+        let listed = listed_offers(round, institute);
+        for bits in 0..1 << listed.len() {
+            let set = subset(&listed, bits);
+            if set == own {
+                continue;
+            }
+            let chosen = offers_of(&rule.choose(round, institute, &together(&set, &own)));
+            let below = |&offer: &Offer| ranks_below(round, institute, offer, seats);
+            if chosen == set && !set.iter().any(below) {
+                return Err(format!(
+                    "institute {} would choose {set:?}: {round:?}",
+                    institute + 1
+                ));
+            }
+        }
+    }
+    Ok(())
+}
+
+/// The offers made to each institute, whatever their order, and the allotment.
+type Ended = (Vec<Vec<Offer>>, Allotment);
+
+/// Runs the offers, the next candidate being picked from those ready.
+fn run<R: Rule + ?Sized>(
+    round: &Round,
+    rule: &R,
+    mut pick: impl FnMut(&[usize]) -> usize,
+) -> Ended {
+    let mut process = Process::new(round, rule);
+    loop {
+        let ready = process.ready();
+        if ready.is_empty() {
+            break;
+        }
+        process.turn(pick(&ready));
+    }
+    let mut made = process.made.clone();
+    for offers in &mut made {
+        offers.sort();
+    }
+    (made, process.allotment())
+}
+
+/// Statement 3: any order of going gives the same offers, seats and steps.
+pub fn any_order<R: Rule + ?Sized>(round: &Round, rule: &R, random: &mut Random) -> Found {
+    let due = run(round, rule, |ready| ready[0]);
+    for _ in 0..8 {
+        if run(round, rule, |ready| random.pick(ready)) != due {
+            return Err(format!("another order ends otherwise: {round:?}"));
+        }
+    }
+    Ok(())
+}
+
+/// Statement 4: at every turn, what the institute chooses from the offers it holds and the new one is what it chooses from all ever made to it.
+pub fn held_and_new_suffice<R: Rule + ?Sized>(round: &Round, rule: &R) -> Found {
+    let mut process = Process::new(round, rule);
+    while let Some(&candidate) = process.ready().first() {
+        let before = process.held.clone();
+        let entry = process.turn(candidate);
+        let new = Offer {
+            candidate,
+            category: entry.category,
+        };
+        let mut offers = offers_of(&before[entry.institute]);
+        offers.push(new);
+        if rule.choose(round, entry.institute, &offers) != process.held[entry.institute] {
+            return Err(format!("held and new do not suffice: {round:?}"));
+        }
+    }
+    Ok(())
+}
+
+/// That at every turn nobody is held twice, by two institutes or by one.
+pub fn held_once<R: Rule + ?Sized>(round: &Round, rule: &R) -> Found {
+    let mut process = Process::new(round, rule);
+    while let Some(&candidate) = process.ready().first() {
+        process.turn(candidate);
+        let mut holding: Vec<usize> = process
+            .held
+            .iter()
+            .flatten()
+            .map(|taken| taken.offer.candidate)
+            .collect();
+        holding.sort();
+        if holding.windows(2).any(|pair| pair[0] == pair[1]) {
+            return Err(format!("somebody is held twice: {round:?}"));
+        }
+    }
+    Ok(())
+}
+
+/// Statement 5 in the run of the offers: at every turn, the completion takes from all offers made the same offers at the same steps as the choice.
+pub fn completion_agrees_in_the_run<R: Rule + ?Sized>(round: &Round, rule: &R) -> Found {
+    let mut process = Process::new(round, rule);
+    while let Some(&candidate) = process.ready().first() {
+        let at = process.turn(candidate).institute;
+        if rule.complete(round, at, &process.made[at]) != process.held[at] {
+            return Err(format!("the completion takes others: {round:?}"));
+        }
+    }
+    Ok(())
+}
+
+/// Every lawful offer to an institute, in a row or not, at most eight of them.
+pub fn lawful_offers(round: &Round, institute: usize, random: &mut Random) -> Vec<Offer> {
+    let mut offers = Vec::new();
+    for (candidate, one) in round.candidates.iter().enumerate() {
+        for entry in lawful_entries(one.code, institute + 1) {
+            if entry.institute == institute {
+                offers.push(Offer {
+                    candidate,
+                    category: entry.category,
+                });
+            }
+        }
+    }
+    random.shuffle(&mut offers);
+    offers.truncate(8);
+    offers.sort();
+    offers
+}
+
+/// Whether the list has two offers of one candidate.
+fn twice(offers: &[Offer]) -> bool {
+    (1..offers.len()).any(|place| offers[place].candidate == offers[place - 1].candidate)
+}
+
+/// Statement 5 on any sets: where the completion takes at most one offer of each candidate, the choice takes the same; an offer the completion rejects from a set it rejects from each larger one; and it does not take fewer from a larger one.
+pub fn completion_is_one<R: Rule + ?Sized>(round: &Round, rule: &R, random: &mut Random) -> Found {
+    for institute in 0..round.institutes.len() {
+        let all = lawful_offers(round, institute, random);
+        let taken: Vec<Vec<Taken>> = (0..1 << all.len())
+            .map(|bits| rule.complete(round, institute, &subset(&all, bits)))
+            .collect();
+        for bits in 0..1usize << all.len() {
+            let set = subset(&all, bits);
+            let complete = offers_of(&taken[bits]);
+            if !twice(&complete) && rule.choose(round, institute, &set) != taken[bits] {
+                return Err(format!("the choice takes others from {set:?}: {round:?}"));
+            }
+            for (place, more) in all.iter().enumerate() {
+                let larger = &taken[bits | 1 << place];
+                if larger.len() < complete.len() {
+                    return Err(format!("fewer taken with {more:?} to {set:?}: {round:?}"));
+                }
+                let back =
+                    |one: &&Taken| set.contains(&one.offer) && !complete.contains(&one.offer);
+                if larger.iter().any(|one| back(&one)) {
+                    return Err(format!("{more:?} brings one back to {set:?}: {round:?}"));
+                }
+            }
+        }
+    }
+    Ok(())
+}
+
+/// The choice is one: from any set of listed offers it takes offers of the set, at most one of each candidate, and no more at a step than its positions, those of step 6 being positions of step 4.
+pub fn choice_is_one<R: Rule + ?Sized>(round: &Round, rule: &R, random: &mut Random) -> Found {
+    for institute in 0..round.institutes.len() {
+        let all = lawful_offers(round, institute, random);
+        let positions = &round.institutes[institute].positions;
+        for bits in 0..1usize << all.len() {
+            let set = subset(&all, bits);
+            let taken = rule.choose(round, institute, &set);
+            let offers = offers_of(&taken);
+            let at = |step: u8| taken.iter().filter(|one| one.step == step).count();
+            let fits = (1..=5).all(|step| at(step) <= positions[usize::from(step) - 1])
+                && at(4) + at(6) <= positions[usize::from(OBC)];
+            if twice(&offers) || !fits || !offers.iter().all(|offer| set.contains(offer)) {
+                return Err(format!("{taken:?} from {set:?}: {round:?}"));
+            }
+        }
+    }
+    Ok(())
+}
