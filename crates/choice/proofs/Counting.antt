@@ -56,10 +56,22 @@ pub bit-max : (b : Bool) → bit b ≤ 1
 bit-max true = omega arith
 bit-max false = omega arith
 
+pub or-left : (a b : Bool) → a ≡ true → a || b ≡ true
+or-left a b e = rw e
+
+pub or-right : (a b : Bool) → b ≡ true → a || b ≡ true
+or-right true b e = refl
+or-right false b e = e
+
 -- a test is passed where its bit is not 0
 pub bit-pass : (b : Bool) → 1 ≤ bit b → b ≡ true
 bit-pass true h = refl
 bit-pass false h = absurd (omega arith)
+
+bit-split : (a b : Bool) → bit a ≡ bit (a && b) + bit (a && not b)
+bit-split false b = omega arith
+bit-split true true = omega arith
+bit-split true false = omega arith
 
 -- the first number apart
 pub count-first : (n : ℕ) (X : ℕ → Bool) → count (suc n) X ≡ bit (X 0) + count n (λ i. X (suc i))
@@ -91,6 +103,10 @@ sumOf-le (suc n) f g h = omega (arith, h n (omega arith), sumOf-le n f g (λ i l
 pub sumOf-add : (n : ℕ) (f g : ℕ → ℕ) → sumOf n (λ i. f i + g i) ≡ sumOf n f + sumOf n g
 sumOf-add zero f g = omega arith
 sumOf-add (suc n) f g = omega (arith, sumOf-add n f g)
+
+pub sumOf-zero : (n : ℕ) (f : ℕ → ℕ) → ((i : ℕ) → i < n → f i ≡ 0) → sumOf n f ≡ 0
+sumOf-zero zero f h = refl
+sumOf-zero (suc n) f h = omega (arith, h n (omega arith), sumOf-zero n f (λ i l. h i (omega arith)))
 
 -- two functions that differ by d at one number
 pub sumOf-at : (n t d : ℕ) (f g : ℕ → ℕ) → t < n → ((i : ℕ) → i ≢ t → f i ≡ g i) → f t ≡ d + g t → sumOf n f ≡ d + sumOf n g
@@ -140,3 +156,21 @@ all-at (suc n) f h i l =
 pub all-from : (n : ℕ) (f : ℕ → Bool) → ((i : ℕ) → i < n → f i ≡ true) → all n f ≡ true
 all-from zero f h = refl
 all-from (suc n) f h = and-true (f n) (all n f) (h n (omega arith)) (all-from n f (λ i l. h i (omega arith)))
+
+-- how many of the list pass the test
+abbrev pub tally : (ℕ → Bool) → List ℕ → ℕ
+tally P [] = 0
+tally P (m ∷ A) = bit (P m) + tally P A
+
+pub tally-le : (P Q : ℕ → Bool) (A : List ℕ) → ((m : ℕ) → P m ≡ true → Q m ≡ true) → tally P A ≤ tally Q A
+tally-le P Q [] h = omega arith
+tally-le P Q (m ∷ A) h = omega (arith, bit-le (P m) (Q m) (h m), tally-le P Q A h)
+
+-- those who pass P either pass Q too or do not
+pub tally-split : (P Q : ℕ → Bool) (A : List ℕ) → tally P A ≡ tally (λ m. P m && Q m) A + tally (λ m. P m && not (Q m)) A
+tally-split P Q [] = omega arith
+tally-split P Q (m ∷ A) = omega (arith, bit-split (P m) (Q m), tally-split P Q A)
+
+pub tally-all : (A : List ℕ) → tally (λ m. true) A ≡ length A
+tally-all [] = refl
+tally-all (m ∷ A) = omega (arith, tally-all A)

@@ -239,6 +239,33 @@ useOf-oneLess reserved marks t l = go (useReached (oneLess reserved t) marks)
     go : Reached (oneLess reserved t) marks → useOf (oneLess reserved t) marks ≤ useOf reserved marks
     go r = omega (arith, r .2, useGreatest reserved marks (r .0) (placing-more reserved marks (r .0) t (r .1)))
 
+-- the first can be given type t: the use is at least one more than that of the others with what is left
+pub useOf-give : (reserved : List ℕ) (m : ℕ) (marks : List ℕ) (t : ℕ) → t < length reserved → holds m t ≡ true → 0 < getD reserved t 0
+    → suc (useOf (oneLess reserved t) marks) ≤ useOf reserved (m ∷ marks)
+useOf-give reserved m marks t l h r =
+    omega (arith, useOf-cons reserved m marks, greatest-above (length reserved) (giving reserved m marks) t l, giving-can reserved m marks t h r)
+
+-- where all are placed, the first is given some type and the others are placed with what is left
+pub useOf-given : (reserved : List ℕ) (m : ℕ) (marks : List ℕ) → useOf reserved (m ∷ marks) ≡ suc (length marks)
+    → (t : ℕ) × (t < length reserved) × (holds m t ≡ true) × (0 < getD reserved t 0) × (useOf (oneLess reserved t) marks ≡ length marks)
+useOf-given reserved m marks e = go (greatest-reached (length reserved) (giving reserved m marks) (omega (arith, most))) (omega (arith, most))
+  where
+    most : greatest (length reserved) (giving reserved m marks) ≡ suc (length marks)
+    most =
+        omega (
+          arith,
+          useOf-cons reserved m marks,
+          useOf-length reserved marks,
+          giving-below reserved m marks (suc (length marks)) (λ t l r. omega (arith, useOf-length (oneLess reserved t) marks)),
+        )
+
+    go : (t : ℕ) × (t < length reserved) × (giving reserved m marks t ≡ greatest (length reserved) (giving reserved m marks))
+        → greatest (length reserved) (giving reserved m marks) ≡ suc (length marks)
+        → (t : ℕ) × (t < length reserved) × (holds m t ≡ true) × (0 < getD reserved t 0) × (useOf (oneLess reserved t) marks ≡ length marks)
+    go best q =
+        let can : (holds m (best .0) ≡ true) × (0 < getD reserved (best .0) 0) = giving-cases reserved m marks (best .0) (omega (arith, best .2)) in
+        (best .0, best .1, can .0, can .1, omega (arith, best .2, giving-can reserved m marks (best .0) (can .0) (can .1)))
+
 -- where each is placed, the use is their number
 pub useOf-everyone : (reserved marks types : List ℕ) → Placing reserved marks types → placedIn types ≡ length marks → useOf reserved marks ≡ length marks
 useOf-everyone reserved marks types p e = omega (arith, useGreatest reserved marks types p, useOf-length reserved marks)
