@@ -1,3 +1,4 @@
 pub mod Counting
 pub mod Use
 pub mod Tight
+pub mod Hall
