@@ -42,6 +42,16 @@ and-true a b e f = rw (e, f)
 pub not-both : (b : Bool) → b ≡ true → b ≡ false → ⊥
 not-both b e f = true≢false (sym e ∙ f)
 
+-- two tests of which the second is passed wherever the first is
+pub contra : (a b : Bool) → (a ≡ true → b ≡ true) → b ≡ false → a ≡ false
+contra true b h e = sym (h refl) ∙ e
+contra false b h e = refl
+
+-- two tests that are not passed together
+pub exclude : (a b : Bool) → (a ≡ true → b ≡ false) → b ≡ true → a ≡ false
+exclude true b h e = sym e ∙ h refl
+exclude false b h e = refl
+
 pub bit-true : (b : Bool) → b ≡ true → bit b ≡ 1
 bit-true b e = ap bit e
 

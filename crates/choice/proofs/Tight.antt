@@ -85,6 +85,10 @@ cap-cross reserved T U =
           (λ t l. cross-at (T t) (U t) (getD reserved t 0)),
     )
 
+pub cap-none : (reserved : List ℕ) → cap reserved (λ t. false) ≡ 0
+unfolding cap
+cap-none reserved = sumOf-zero (length reserved) (share reserved (λ t. false)) (λ t l. refl)
+
 cond-less : (b : Bool) (x y : ℕ) → x ≡ suc y → cond b x 0 ≡ bit b + cond b y 0
 cond-less true x y e = omega arith
 cond-less false x y e = omega arith
