@@ -1,13 +1,13 @@
 -- Facts about tests, counts, sums and greatest values.
-use Prim.Native.Nat.{ℕ, zero, suc, _+_, _-_, _≤_, _<_, max}
-use mathlib.Core.Path.{_≡_, refl, sym, ap, _∙_, subst}
-use mathlib.Core.Bool.{Bool, true, false, cond, not, _&&_, _||_, true≢false, false≢true}
+use Prim.Native.Nat.{ℕ, zero, suc, _+_, _-_, _≤_, _<_}
+use mathlib.Core.Path.{_≡_, refl, sym, ap, _∙_}
+use mathlib.Core.Bool.{Bool, true, false, not, _&&_, _||_, true≢false, false≢true}
 use mathlib.Core.List.{List, [], _∷_}
 use mathlib.Core.Logic.{_≢_}
 use native.Mathlib.Omega.{arith}
 use lib.Dec.{eqb, ltb}
 use lib.ListN.{length, getD, set}
-use borrow.Author.Tests.{ltb-true, ltb-false, eqb-true, eqb-false}
+use borrow.Author.Tests.{ltb-true, ltb-false, eqb-true, eqb-false, eq-eqb, ne-eqb}
 use Rattle.round.specs.Lists.{bit, count, sumOf, sum, all}
 use Rattle.choice.specs.Use.{greatest}
 
@@ -58,6 +58,12 @@ bit-true b e = ap bit e
 pub bit-false : (b : Bool) → b ≡ false → bit b ≡ 0
 bit-false b e = ap bit e
 
+pub bit-same : (a b : ℕ) → a ≡ b → bit (eqb a b) ≡ 1
+bit-same a b e = bit-true (eqb a b) (eq-eqb a b e)
+
+pub bit-other : (a b : ℕ) → a ≢ b → bit (eqb a b) ≡ 0
+bit-other a b n = bit-false (eqb a b) (ne-eqb a b n)
+
 pub bit-le : (a b : Bool) → (a ≡ true → b ≡ true) → bit a ≤ bit b
 bit-le true b h = omega (arith, bit-true b (h refl))
 bit-le false b h = omega arith
@@ -97,10 +103,6 @@ pub count-le : (n : ℕ) (X Y : ℕ → Bool) → ((i : ℕ) → i < n → X i �
 count-le zero X Y h = omega arith
 count-le (suc n) X Y h =
     omega (arith, bit-le (X n) (Y n) (h n (omega arith)), count-le n X Y (λ i l. h i (omega arith)))
-
-pub count-below : (n : ℕ) (X : ℕ → Bool) → count n X ≤ n
-count-below zero X = omega arith
-count-below (suc n) X = omega (arith, bit-max (X n), count-below n X)
 
 pub sumOf-ext : (n : ℕ) (f g : ℕ → ℕ) → ((i : ℕ) → i < n → f i ≡ g i) → sumOf n f ≡ sumOf n g
 sumOf-ext zero f g h = refl

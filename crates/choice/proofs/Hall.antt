@@ -1,18 +1,17 @@
 -- Hall's theorem, by construction: a list of marks can all be placed, or some set of types has fewer positions than
 -- people who hold its types only.
-use Prim.Native.Nat.{ℕ, zero, suc, _+_, _≤_, _<_}
-use mathlib.Core.Path.{_≡_, refl, sym, ap, _∙_}
-use mathlib.Core.Bool.{Bool, true, false, cond, _&&_, _||_}
+use Prim.Native.Nat.{ℕ, zero, suc, _≤_, _<_}
+use mathlib.Core.Path.{_≡_, refl}
+use mathlib.Core.Bool.{Bool, true, false, cond}
 use mathlib.Core.List.{List, [], _∷_}
 use mathlib.Core.Logic.{_⊎_, inl, inr, ⊎-elim}
 use native.Mathlib.Omega.{arith}
 use lib.Dec.{eqb}
 use lib.ListN.{length, getD}
 use borrow.Author.Tests.{eq-eqb, ne-eqb}
-use Rattle.round.specs.Lists.{bit, sumOf}
-use Rattle.choice.specs.Use.{holds, oneLess, useOf}
+use Rattle.choice.specs.Use.{holds, oneLess}
 use Rattle.choice.specs.Step.{raises}
-use Rattle.choice.proofs.Counting.{test, lessOr, below, or-left, or-right, not-both, bit-true, bit-max, bit-pass, sumOf-zero, tally}
+use Rattle.choice.proofs.Counting.{test, lessOr, below, or-left, or-right, not-both, bit-true, bit-max, bit-pass, sumOf-zero}
 use Rattle.choice.proofs.Use.{oneLess-length, useOf-nil, useOf-length, useOf-give, raises-false}
 use Rattle.choice.proofs.Tight.{Placeable, cap, only, confined, Tight, union, only-from, cap-oneLess, pigeonhole, tight-union}
 

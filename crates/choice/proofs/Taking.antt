@@ -1,18 +1,18 @@
 -- The laws of taking for use: who is not taken from fewer considered people is not taken from more, and from more people
 -- no fewer are taken.
-use Prim.Native.Nat.{ℕ, zero, suc, _+_, _≤_, _<_}
+use Prim.Native.Nat.{ℕ, zero, suc, _≤_, _<_}
 use mathlib.Core.Path.{_≡_, refl, sym, ap, _∙_}
-use mathlib.Core.Bool.{Bool, true, false, cond, not, _&&_}
+use mathlib.Core.Bool.{Bool, true, false, cond, not}
 use mathlib.Core.List.{List, [], _∷_}
 use native.Mathlib.Omega.{arith}
 use lib.ListN.{length, getD}
 use borrow.Author.Tests.{not-true}
-use Rattle.round.specs.Lists.{bit, count, sum}
+use Rattle.round.specs.Lists.{count, sum}
 use Rattle.choice.specs.Use.{useOf}
 use Rattle.choice.specs.Step.{raises, takenBefore, takenForUse}
-use Rattle.choice.proofs.Counting.{test, and-left, and-right, and-true, or-left, or-right, exclude, contra, bit-true, bit-false, bit-le, tally, tally-split, tally-all}
+use Rattle.choice.proofs.Counting.{test, and-left, and-right, or-left, or-right, exclude, contra, bit-true, bit-false, tally-split, tally-all}
 use Rattle.choice.proofs.Use.{useOf-nil, useOf-sum, raises-true}
-use Rattle.choice.proofs.Tight.{Placeable, cap, cap-none, only, confined, Tight, union, Apart, only-le, pigeonhole, cross, tight-union, blocked}
+use Rattle.choice.proofs.Tight.{Placeable, cap-none, only, Tight, union, Apart, only-le, pigeonhole, cross, tight-union, blocked}
 use Rattle.choice.proofs.Hall.{exhausted}
 use Rattle.choice.proofs.TakingRule.{TakingRule}
 

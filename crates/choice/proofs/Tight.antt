@@ -1,20 +1,18 @@
 -- Sets of types, as tests on numbers below the number of types: the positions of a set, how many of a list hold types of
 -- the set only, and what a set that is exhausted by such people says about one more candidate.
-use Prim.Native.Nat.{ℕ, zero, suc, _+_, _-_, _≤_, _<_}
-use mathlib.Core.Path.{_≡_, refl, sym, ap, _∙_}
+use Prim.Native.Nat.{ℕ, zero, suc, _+_, _≤_, _<_}
+use mathlib.Core.Path.{_≡_, refl, sym, ap}
 use mathlib.Core.Bool.{Bool, true, false, cond, not, _&&_, _||_, false≢true}
 use mathlib.Core.List.{List, [], _∷_}
-use mathlib.Core.Logic.{_≢_}
 use native.Mathlib.Omega.{arith}
-use lib.Dec.{eqb}
 use lib.ListN.{length, getD}
-use borrow.Author.Tests.{eq-eqb, ne-eqb, not-true}
-use Rattle.round.specs.Lists.{bit, count, sumOf, all}
+use borrow.Author.Tests.{not-true}
+use Rattle.round.specs.Lists.{bit, sumOf, all}
 use Rattle.choice.specs.Use.{holds, oneLess, useOf, Placing, placedIn}
 use Rattle.choice.specs.Step.{raises}
-use Rattle.choice.proofs.Counting.{test, sameOr, and-left, and-right, and-true, or-left, or-right, not-both, bit-true, bit-false, bit-le}
+use Rattle.choice.proofs.Counting.{test, and-left, and-right, and-true, or-left, or-right, bit-true, bit-same, bit-other, bit-le}
 use Rattle.choice.proofs.Counting.{sumOf-ext, sumOf-le, sumOf-add, sumOf-zero, sumOf-at, all-at, all-from, tally, tally-le, tally-split}
-use Rattle.choice.proofs.Use.{oneLess-length, oneLess-same, oneLess-other, useOf-give, useOf-given, useOf-everyone, raises-true}
+use Rattle.choice.proofs.Use.{oneLess-length, oneLess-same, oneLess-other, useOf-given, useOf-everyone, raises-true}
 use Rattle.choice.proofs.Use.{givenType, givenType-cons}
 
 -- all of the list can be placed together
@@ -186,7 +184,7 @@ given-confined L (m ∷ A) (zero ∷ types) T e h =
       arith,
       given-confined L A types T (omega arith) (λ i t l q. h (suc i) t (omega arith) q),
       sumOf-ext L (λ t. cond (T t) (givenType (0 ∷ types) t) 0) (λ t. cond (T t) (givenType types t) 0)
-          (λ t l. ap {B = ℕ} (λ x. cond (T t) x 0) (omega (arith, givenType-cons 0 types t, bit-false (eqb 0 (suc t)) (ne-eqb 0 (suc t) (λ q. omega arith))))),
+          (λ t l. ap {B = ℕ} (λ x. cond (T t) x 0) (omega (arith, givenType-cons 0 types t, bit-other 0 (suc t) (omega arith)))),
     )
 given-confined L (m ∷ A) (suc u ∷ types) T e h =
     omega (
@@ -194,9 +192,9 @@ given-confined L (m ∷ A) (suc u ∷ types) T e h =
       given-confined L A types T (omega arith) (λ i t l q. h (suc i) t (omega arith) q),
       bit-le (T u) (only L T m) (h 0 u (omega arith) refl .1),
       sumOf-at L u (bit (T u)) (λ t. cond (T t) (givenType (suc u ∷ types) t) 0) (λ t. cond (T t) (givenType types t) 0) (h 0 u (omega arith) refl .0)
-          (λ t n. ap {B = ℕ} (λ x. cond (T t) x 0) (omega (arith, givenType-cons (suc u) types t, bit-false (eqb (suc u) (suc t)) (ne-eqb (suc u) (suc t) (λ q. n (omega arith))))))
+          (λ t n. ap {B = ℕ} (λ x. cond (T t) x 0) (omega (arith, givenType-cons (suc u) types t, bit-other (suc u) (suc t) (omega arith))))
           (cond-less (T u) (givenType (suc u ∷ types) u) (givenType types u)
-          (omega (arith, givenType-cons (suc u) types u, bit-true (eqb (suc u) (suc u)) (eq-eqb (suc u) (suc u) refl)))),
+          (omega (arith, givenType-cons (suc u) types u, bit-same (suc u) (suc u) refl))),
     )
 
 -- a set of types is exhausted where each of its types is full and each who is given one holds types of the set only

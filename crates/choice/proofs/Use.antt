@@ -1,19 +1,19 @@
 -- The use of a set of candidates is the greatest number of them that can be placed, as document 01 says; and how it
 -- changes with one more candidate.
 use Prim.Native.Nat.{ℕ, zero, suc, _+_, _-_, _≤_, _<_, max}
-use mathlib.Core.Path.{_≡_, refl, sym, ap, _∙_, subst}
-use mathlib.Core.Bool.{Bool, true, false, cond, _&&_}
+use mathlib.Core.Path.{_≡_, refl, ap}
+use mathlib.Core.Bool.{true, false, cond, _&&_}
 use mathlib.Core.List.{List, [], _∷_}
 use mathlib.Core.Logic.{_≢_}
 use native.Mathlib.Omega.{arith}
 use lib.Dec.{eqb, ltb}
-use lib.ListN.{length, getD, set, length-set}
+use lib.ListN.{length, getD, length-set}
 use lib.Seq.{getD-set-same, getD-set-other}
-use borrow.Author.Tests.{ltb-true, ltb-false, lt-ltb, le-ltb, eqb-true, eqb-false, eq-eqb, ne-eqb}
+use borrow.Author.Tests.{ltb-true, ltb-false, lt-ltb}
 use Rattle.round.specs.Lists.{bit, count, sum}
 use Rattle.choice.specs.Use.{holds, oneLess, greatest, useOf, Placing, placedIn}
 use Rattle.choice.specs.Step.{raises}
-use Rattle.choice.proofs.Counting.{test, lessOr, sameOr, and-left, and-right, and-true, bit-true, bit-false, count-first, count-ext}
+use Rattle.choice.proofs.Counting.{test, lessOr, sameOr, and-left, and-right, bit-true, bit-false, bit-same, bit-other, count-first}
 use Rattle.choice.proofs.Counting.{greatest-above, greatest-below, greatest-reached, sum-less}
 
 pub oneLess-length : (reserved : List ℕ) (t : ℕ) → length (oneLess reserved t) ≡ length reserved
@@ -54,7 +54,7 @@ pub placing-none : (reserved : List ℕ) (m : ℕ) (marks types : List ℕ) → 
 placing-none reserved m marks types p = record {
   each = omega arith;
   held = held;
-  within = λ t l. omega (arith, p .within t l, givenType-cons 0 types t, bit-false (eqb 0 (suc t)) (ne-eqb 0 (suc t) (λ e. omega arith)));
+  within = λ t l. omega (arith, p .within t l, givenType-cons 0 types t, bit-other 0 (suc t) (omega arith));
 }
   where
     held : (i t : ℕ) → i < length (m ∷ marks) → getD (0 ∷ types) i 0 ≡ suc t → (t < length reserved) × (holds (getD (m ∷ marks) i 0) t ≡ true)
@@ -80,12 +80,12 @@ placing-some reserved m marks types t l h r p = record {
     same u k u≡t =
         rw u≡t
         (let k′ : t < length (oneLess reserved t) = omega (arith, oneLess-length reserved t) in
-        omega (arith, p .within t k′, oneLess-same reserved t l, givenType-cons (suc t) types t, bit-true (eqb (suc t) (suc t)) (eq-eqb (suc t) (suc t) refl)))
+        omega (arith, p .within t k′, oneLess-same reserved t l, givenType-cons (suc t) types t, bit-same (suc t) (suc t) refl))
 
     other : (u : ℕ) → u < length reserved → u ≢ t → givenType (suc t ∷ types) u ≤ getD reserved u 0
     other u k u≢t =
         let k′ : u < length (oneLess reserved t) = omega (arith, oneLess-length reserved t) in
-        omega (arith, p .within u k′, oneLess-other reserved t u u≢t, givenType-cons (suc t) types u, bit-false (eqb (suc t) (suc u)) (ne-eqb (suc t) (suc u) (λ q. u≢t (omega arith))))
+        omega (arith, p .within u k′, oneLess-other reserved t u u≢t, givenType-cons (suc t) types u, bit-other (suc t) (suc u) (omega arith))
 
 -- the placing of the others, where the first is left out
 pub placing-rest-none : (reserved : List ℕ) (m : ℕ) (marks types : List ℕ) → Placing reserved (m ∷ marks) (0 ∷ types) → Placing reserved marks types
@@ -113,7 +113,7 @@ placing-rest-some reserved m marks types t p = (
     first = p .held 0 t (omega arith) refl
 
     at-t : suc (givenType types t) ≤ getD reserved t 0
-    at-t = omega (arith, p .within t (first .0), givenType-cons (suc t) types t, bit-true (eqb (suc t) (suc t)) (eq-eqb (suc t) (suc t) refl))
+    at-t = omega (arith, p .within t (first .0), givenType-cons (suc t) types t, bit-same (suc t) (suc t) refl)
 
     within : (u : ℕ) → u < length reserved → givenType types u ≤ getD (oneLess reserved t) u 0
     within u k =
@@ -289,3 +289,14 @@ raises-true reserved marks c e = omega (arith, ltb-true, useOf-step reserved mar
 pub raises-false : (reserved marks : List ℕ) (c : ℕ) → raises reserved marks c ≡ false → useOf reserved (c ∷ marks) ≡ useOf reserved marks
 unfolding raises
 raises-false reserved marks c e = omega (arith, ltb-false, useOf-grows reserved marks c)
+
+pub raises-from : (reserved marks : List ℕ) (c : ℕ) → useOf reserved (c ∷ marks) ≡ suc (useOf reserved marks) → raises reserved marks c ≡ true
+unfolding raises
+raises-from reserved marks c e = omega (arith, lt-ltb)
+
+-- one who can be placed with all the others raises the use
+pub raises-placed : (reserved marks : List ℕ) (c : ℕ) (types : List ℕ) → Placing reserved (c ∷ marks) types → placedIn types ≡ suc (length marks)
+    → raises reserved marks c ≡ true
+unfolding raises
+raises-placed reserved marks c types p e =
+    omega (arith, lt-ltb, useOf-everyone reserved (c ∷ marks) types p e, useOf-length reserved marks)
