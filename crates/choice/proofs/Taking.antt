@@ -5,13 +5,14 @@ use mathlib.Core.Path.{_≡_, refl, sym, ap, _∙_}
 use mathlib.Core.Bool.{Bool, true, false, cond, not}
 use mathlib.Core.List.{List, [], _∷_}
 use native.Mathlib.Omega.{arith}
+use lib.Dec.{ltb}
 use lib.ListN.{length, getD}
 use borrow.Author.Tests.{not-true}
 use Rattle.round.specs.Lists.{count, sum}
 use Rattle.choice.specs.Use.{useOf}
 use Rattle.choice.specs.Step.{raises, takenBefore, takenForUse}
 use Rattle.choice.proofs.Counting.{test, and-left, and-right, or-left, or-right, exclude, contra, bit-true, bit-false, tally-split, tally-all}
-use Rattle.choice.proofs.Use.{useOf-nil, useOf-sum, raises-true}
+use Rattle.choice.proofs.Use.{placed, useOf-nil, useOf-sum, raises-true}
 use Rattle.choice.proofs.Tight.{Placeable, cap-none, only, Tight, union, Apart, only-le, pigeonhole, cross, tight-union, blocked}
 use Rattle.choice.proofs.Hall.{exhausted}
 use Rattle.choice.proofs.TakingRule.{TakingRule}
@@ -109,6 +110,13 @@ module _ (reserved marks : List ℕ) (X : ℕ → Bool) where
       test (takenForUse reserved marks X p)
       (λ e. omega (arith, ap length (takenBefore-taken p e), bit-true (takenForUse reserved marks X p) e, takenBefore-length p))
       (λ e. omega (arith, ap length (takenBefore-left p e), bit-false (takenForUse reserved marks X p) e, takenBefore-length p))
+
+  -- the list of those taken, where g gives a type to just those
+  pub takenBefore-placed : (g : ℕ → ℕ) (p : ℕ) → ((q : ℕ) → q < p → takenForUse reserved marks X q ≡ ltb 0 (g q))
+      → takenBefore reserved marks X p ≡ placed g (λ q. getD marks q 0) p
+  unfolding takenBefore takenForUse
+  takenBefore-placed g zero h = refl
+  takenBefore-placed g (suc p) h = rw (h p (omega arith), takenBefore-placed g p (λ q l. h q (omega arith)))
 
   -- no more are taken than there are reserved positions
   pub takenForUse-fits : (n : ℕ) → count n (takenForUse reserved marks X) ≤ sum reserved

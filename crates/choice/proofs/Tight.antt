@@ -1,19 +1,20 @@
 -- Sets of types, as tests on numbers below the number of types: the positions of a set, how many of a list hold types of
 -- the set only, and what a set that is exhausted by such people says about one more candidate.
 use Prim.Native.Nat.{ℕ, zero, suc, _+_, _≤_, _<_}
-use mathlib.Core.Path.{_≡_, refl, sym, ap}
+use mathlib.Core.Path.{_≡_, refl, sym, ap, _∙_}
 use mathlib.Core.Bool.{Bool, true, false, cond, not, _&&_, _||_, false≢true}
 use mathlib.Core.List.{List, [], _∷_}
 use native.Mathlib.Omega.{arith}
+use lib.Dec.{eqb}
 use lib.ListN.{length, getD}
 use borrow.Author.Tests.{not-true}
-use Rattle.round.specs.Lists.{bit, sumOf, all}
+use Rattle.round.specs.Lists.{bit, count, sumOf, all}
 use Rattle.choice.specs.Use.{holds, oneLess, useOf, Placing, placedIn}
 use Rattle.choice.specs.Step.{raises}
 use Rattle.choice.proofs.Counting.{test, and-left, and-right, and-true, or-left, or-right, bit-true, bit-same, bit-other, bit-le}
 use Rattle.choice.proofs.Counting.{sumOf-ext, sumOf-le, sumOf-add, sumOf-zero, sumOf-at, all-at, all-from, tally, tally-le, tally-split}
 use Rattle.choice.proofs.Use.{oneLess-length, oneLess-same, oneLess-other, useOf-given, useOf-everyone, raises-true}
-use Rattle.choice.proofs.Use.{givenType, givenType-cons}
+use Rattle.choice.proofs.Use.{givenType, givenType-cons, placed, PlacingTo, Stands, placed-length, placed-types, placed-given, placed-place, placed-placing}
 
 -- all of the list can be placed together
 abbrev pub Placeable : List ℕ → List ℕ → Type 0
@@ -220,3 +221,18 @@ full-blocked reserved A types c T p everyone full closed h =
     blocked reserved A c T (useOf-everyone reserved A types p everyone)
     (full-tight reserved A types T p full (λ i t l q k. only-from (length reserved) T (getD A i 0) (λ u. closed i t u l q k)))
     (only-from (length reserved) T c h)
+
+-- the same of places: g gives those below p their types
+pub placed-blocked : (reserved : List ℕ) (g f : ℕ → ℕ) (p c : ℕ) (T : ℕ → Bool) → PlacingTo reserved g f p
+    → ((t : ℕ) → t < length reserved → T t ≡ true → getD reserved t 0 ≤ count p (λ q. eqb (g q) (suc t)))
+    → ((q t u : ℕ) → q < p → g q ≡ suc t → T t ≡ true → u < length reserved → holds (f q) u ≡ true → T u ≡ true)
+    → ((u : ℕ) → u < length reserved → holds c u ≡ true → T u ≡ true)
+    → raises reserved (placed g f p) c ≡ false
+placed-blocked reserved g f p c T h full closed own =
+    full-blocked reserved (placed g f p) (placed g g p) c T (placed-placing reserved g f p h)
+    (omega (arith, placed-types g p, placed-length g f p, placed-length g g p))
+    (λ t l k. omega (arith, full t l k, placed-given g p t))
+    (λ i t u l e k m o.
+    let at : Stands g f p (placed g f p) (placed g g p) i = placed-place g f p i l in
+    closed (at .0) t u (at .1) (sym (at .3) ∙ e) k m (rw (at .2) at o))
+    own

@@ -1,7 +1,7 @@
 -- The use of a set of candidates is the greatest number of them that can be placed, as document 01 says; and how it
 -- changes with one more candidate.
 use Prim.Native.Nat.{ℕ, zero, suc, _+_, _-_, _≤_, _<_, max}
-use mathlib.Core.Path.{_≡_, refl, ap}
+use mathlib.Core.Path.{_≡_, refl, sym, ap, _∙_}
 use mathlib.Core.Bool.{true, false, cond, _&&_}
 use mathlib.Core.List.{List, [], _∷_}
 use mathlib.Core.Logic.{_≢_}
@@ -9,7 +9,7 @@ use native.Mathlib.Omega.{arith}
 use lib.Dec.{eqb, ltb}
 use lib.ListN.{length, getD, length-set}
 use lib.Seq.{getD-set-same, getD-set-other}
-use borrow.Author.Tests.{ltb-true, ltb-false, lt-ltb}
+use borrow.Author.Tests.{ltb-true, ltb-false, lt-ltb, le-ltb}
 use Rattle.round.specs.Lists.{bit, count, sum}
 use Rattle.choice.specs.Use.{holds, oneLess, greatest, useOf, Placing, placedIn}
 use Rattle.choice.specs.Step.{raises}
@@ -300,3 +300,80 @@ pub raises-placed : (reserved marks : List ℕ) (c : ℕ) (types : List ℕ) →
 unfolding raises
 raises-placed reserved marks c types p e =
     omega (arith, lt-ltb, useOf-everyone reserved (c ∷ marks) types p e, useOf-length reserved marks)
+
+-- the f of the places below p to which g gives a type, the latest first
+abbrev pub placed : (ℕ → ℕ) → (ℕ → ℕ) → ℕ → List ℕ
+placed g f zero = []
+placed g f (suc p) = let before = placed g f p in cond (ltb 0 (g p)) (f p ∷ before) before
+
+-- g gives each place below p a held type, from 1, or none, 0, and no type more often than it has positions
+pub record PlacingTo (reserved : List ℕ) (g f : ℕ → ℕ) (p : ℕ) : Type 0 where
+  pub held : (q t : ℕ) → q < p → g q ≡ suc t → (t < length reserved) × (holds (f q) t ≡ true)
+  pub within : (t : ℕ) → t < length reserved → count p (λ q. eqb (g q) (suc t)) ≤ getD reserved t 0
+
+pub placed-length : (g f : ℕ → ℕ) (p : ℕ) → length (placed g f p) ≡ count p (λ q. ltb 0 (g q))
+placed-length g f zero = refl
+placed-length g f (suc p) =
+    lessOr 0 (g p)
+    (λ h. rw (lt-ltb 0 (g p) h) (omega (arith, placed-length g f p)))
+    (λ h. rw (le-ltb 0 (g p) h) (omega (arith, placed-length g f p)))
+
+pub placed-types : (g : ℕ → ℕ) (p : ℕ) → placedIn (placed g g p) ≡ length (placed g g p)
+placed-types g zero = unfold placedIn in refl
+placed-types g (suc p) =
+    lessOr 0 (g p)
+    (λ h. rw (lt-ltb 0 (g p) h) (omega (arith, placedIn-cons (g p) (placed g g p), bit-true (ltb 0 (g p)) (lt-ltb 0 (g p) h), placed-types g p)))
+    (λ h. rw (le-ltb 0 (g p) h) (placed-types g p))
+
+pub placed-given : (g : ℕ → ℕ) (p t : ℕ) → givenType (placed g g p) t ≡ count p (λ q. eqb (g q) (suc t))
+placed-given g zero t = refl
+placed-given g (suc p) t =
+    lessOr 0 (g p)
+    (λ h. rw (lt-ltb 0 (g p) h) (omega (arith, givenType-cons (g p) (placed g g p) t, placed-given g p t)))
+    (λ h. rw (le-ltb 0 (g p) h) (omega (arith, bit-other (g p) (suc t) (omega arith), placed-given g p t)))
+
+-- the place at which one of the list stands
+abbrev pub Stands : (ℕ → ℕ) → (ℕ → ℕ) → ℕ → List ℕ → List ℕ → ℕ → Type 0
+Stands g f p A types i = (q : ℕ) × (q < p) × (getD A i 0 ≡ f q) × (getD types i 0 ≡ g q)
+
+pub placed-place : (g f : ℕ → ℕ) (p i : ℕ) → i < length (placed g f p) → Stands g f p (placed g f p) (placed g g p) i
+placed-place g f zero i l = absurd (omega arith)
+placed-place g f (suc p) i l =
+    lessOr 0 (g p)
+    (λ h. rw (lt-ltb 0 (g p) h) (some i (rw (lt-ltb 0 (g p) h) at l) (placed-place g f p)))
+    (λ h. rw (le-ltb 0 (g p) h) (later i (placed-place g f p i (rw (le-ltb 0 (g p) h) at l))))
+  where
+    later : (i : ℕ) → Stands g f p (placed g f p) (placed g g p) i → Stands g f (suc p) (placed g f p) (placed g g p) i
+    later i s = (s .0, omega (arith, s .1), s .2, s .3)
+
+    some : (i : ℕ) → i < length (f p ∷ placed g f p) → ((i : ℕ) → i < length (placed g f p) → Stands g f p (placed g f p) (placed g g p) i)
+        → Stands g f (suc p) (f p ∷ placed g f p) (g p ∷ placed g g p) i
+    some zero l rest = (p, omega arith, refl, refl)
+    some (suc i) l rest = later i (rest i (omega arith))
+
+-- a placing of places is a placing of the list of those who are given a type
+pub placed-placing : (reserved : List ℕ) (g f : ℕ → ℕ) (p : ℕ) → PlacingTo reserved g f p → Placing reserved (placed g f p) (placed g g p)
+placed-placing reserved g f p h = record {
+  each = omega (arith, placed-length g f p, placed-length g g p);
+  held = λ i t l e.
+      let at : Stands g f p (placed g f p) (placed g g p) i = placed-place g f p i l in
+      rw (at .2) (h .held (at .0) t (at .1) (sym (at .3) ∙ e));
+  within = λ t l. omega (arith, placed-given g p t, h .within t l);
+}
+
+-- those who are given a type can all be placed
+pub placed-everyone : (reserved : List ℕ) (g f : ℕ → ℕ) (p : ℕ) → PlacingTo reserved g f p → useOf reserved (placed g f p) ≡ length (placed g f p)
+placed-everyone reserved g f p h =
+    useOf-everyone reserved (placed g f p) (placed g g p) (placed-placing reserved g f p h)
+    (omega (arith, placed-types g p, placed-length g f p, placed-length g g p))
+
+-- the one at place p is given a type with all before
+pub placed-raises : (reserved : List ℕ) (g f : ℕ → ℕ) (p : ℕ) → PlacingTo reserved g f (suc p) → 0 < g p → raises reserved (placed g f p) (f p) ≡ true
+unfolding raises
+placed-raises reserved g f p h l =
+    omega (arith, lt-ltb, rw (lt-ltb 0 (g p) l) at (placed-everyone reserved g f (suc p) h), useOf-length reserved (placed g f p))
+
+-- who is in the list turns only on who is given a type
+pub placed-same : (g g′ f : ℕ → ℕ) (p : ℕ) → ((q : ℕ) → q < p → ltb 0 (g q) ≡ ltb 0 (g′ q)) → placed g f p ≡ placed g′ f p
+placed-same g g′ f zero h = refl
+placed-same g g′ f (suc p) h = rw (h p (omega arith), placed-same g g′ f p (λ q l. h q (omega arith)))
