@@ -84,7 +84,8 @@ module _ (reserved marks : List ℕ) (X : ℕ → Bool) where
   unfolding takenForUse
   takenForUse-raises p e = and-right (X p) _ e
 
-  takenForUse-considered : (p : ℕ) → X p ≡ true → takenForUse reserved marks X p ≡ raises reserved (takenBefore reserved marks X p) (getD marks p 0)
+  -- a considered place is taken when it raises the use of those taken
+  pub takenForUse-considered : (p : ℕ) → X p ≡ true → takenForUse reserved marks X p ≡ raises reserved (takenBefore reserved marks X p) (getD marks p 0)
   unfolding takenForUse
   takenForUse-considered p e = rw e
 
