@@ -1,0 +1,6 @@
+pub mod Counting
+pub mod Use
+pub mod Tight
+pub mod Hall
+pub mod TakingRule
+pub mod Taking
