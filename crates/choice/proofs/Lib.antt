@@ -1,0 +1,3 @@
+pub mod TakingRule
+pub mod Sets
+pub mod Filling
