@@ -8,7 +8,7 @@ use native.Mathlib.Omega.{arith}
 use lib.Dec.{ltb}
 use lib.ListN.{length}
 use borrow.Author.Tests.{ltb-true, ltb-false, lt-ltb, le-ltb}
-use Rattle.round.specs.Lists.{count}
+use Rattle.round.specs.Lists.{count, sum}
 use Rattle.choice.specs.Step.{takenForUse, remaining, takenByMerit, taken}
 use Rattle.choice.proofs.TakingRule.{TakingRule}
 use Rattle.choice.proofs.Sets.{true-unless, false-unless, clash, and-left, and-right, count-mono, count-cong, same-by-count, count-split, count-join, count-best}
@@ -121,3 +121,21 @@ module _ (n bound : ℕ) (H : (ℕ → Bool) → ℕ → Bool) (law : TakingRule
   -- leaving out only places that are left out changes nothing
   pub filled-irrelevant : (q : ℕ) → bound ≤ q → (X X' : ℕ → Bool) → ((p : ℕ) → p < n → X p ≡ true → X' p ≡ true) → ((p : ℕ) → p < n → filled n H q X' p ≡ true → X p ≡ true) → (p : ℕ) → p < n → filled n H q X p ≡ filled n H q X' p
   filled-irrelevant q enough = irrelevant n q (filled n H q) (filled-rule q enough)
+
+-- the same of a step's places, where those taken for use are a taking rule's
+module _ (marks : List ℕ) (taking : (reserved : List ℕ) → TakingRule (length marks) (sum reserved) (takenForUse reserved marks)) (reserved : List ℕ) where
+  pub taken-within : (q : ℕ) (X : ℕ → Bool) (p : ℕ) → taken reserved marks X q p ≡ true → X p ≡ true
+  unfolding taken takenByMerit remaining filled
+  taken-within = filled-within (length marks) (sum reserved) (takenForUse reserved marks) (taking reserved)
+
+  pub taken-stays : (q q' : ℕ) → q' ≤ q → (X X' : ℕ → Bool) → ((p : ℕ) → X p ≡ true → X' p ≡ true) → (p : ℕ) → X p ≡ true → taken reserved marks X q p ≡ false → taken reserved marks X' q' p ≡ false
+  unfolding taken takenByMerit remaining filled
+  taken-stays = filled-stays (length marks) (sum reserved) (takenForUse reserved marks) (taking reserved)
+
+  pub taken-count : (q : ℕ) → sum reserved ≤ q → (X : ℕ → Bool) → count (length marks) (taken reserved marks X q) ≡ min q (count (length marks) X)
+  unfolding taken takenByMerit remaining filled
+  taken-count = filled-count (length marks) (sum reserved) (takenForUse reserved marks) (taking reserved)
+
+  pub taken-irrelevant : (q : ℕ) → sum reserved ≤ q → (X X' : ℕ → Bool) → ((p : ℕ) → p < length marks → X p ≡ true → X' p ≡ true) → ((p : ℕ) → p < length marks → taken reserved marks X' q p ≡ true → X p ≡ true) → (p : ℕ) → p < length marks → taken reserved marks X q p ≡ taken reserved marks X' q p
+  unfolding taken takenByMerit remaining filled
+  taken-irrelevant = filled-irrelevant (length marks) (sum reserved) (takenForUse reserved marks) (taking reserved)
