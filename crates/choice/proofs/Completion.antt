@@ -11,7 +11,7 @@ use borrow.Author.Tests.{ltb-true, lt-ltb, eqb-true, ne-eqb}
 use Rattle.round.specs.declared.entry.Category.{Category}
 use Rattle.round.specs.declared.entry.Category.the-variants.{Open, SC, ST, OBC, EWS}
 use Rattle.round.specs.Round.{StepRule}
-use Rattle.round.specs.Lists.{tabulate, count, sum}
+use Rattle.round.specs.Lists.{tabulate, bit, count, sum, sumOf}
 use Rattle.choice.specs.Step.{takenForUse, taken}
 use Rattle.choice.specs.Choice.{Progress, nothingDone}
 use Rattle.choice.proofs.TakingRule.{TakingRule}
@@ -69,6 +69,12 @@ module _ (marks : List ℕ) where
 unfoldable pub offersIn : ℕ → (ℕ → Category → Bool) → ℕ
 offersIn n Y =
     count n (λ p. Y p Open) + count n (λ p. Y p SC) + count n (λ p. Y p ST) + count n (λ p. Y p OBC) + count n (λ p. Y p EWS)
+
+-- the same, place by place
+pub offers-by-place : (n : ℕ) (Y : ℕ → Category → Bool) → offersIn n Y ≡ sumOf n (λ p. bit (Y p Open) + bit (Y p SC) + bit (Y p ST) + bit (Y p OBC) + bit (Y p EWS))
+unfolding offersIn
+offers-by-place zero Y = refl
+offers-by-place (suc n) Y = omega (arith, offers-by-place n Y)
 
 unfoldable pub totalTaken : List ℕ → List StepRule → (ℕ → Category → Bool) → ℕ
 totalTaken marks rules offered = offersIn (length marks) (completion marks rules offered)

@@ -5,7 +5,7 @@ use mathlib.Core.Path.{_≡_, refl, sym, _∙_}
 use mathlib.Core.Bool.{Bool, true, false, _&&_, _||_, or-true, or-false}
 use mathlib.Core.List.{List}
 use lib.Dec.{eqb}
-use lib.ListN.{length}
+use lib.ListN.{length, getD}
 use Rattle.round.specs.declared.entry.Category.{Category}
 use Rattle.round.specs.Round.{StepRule}
 use Rattle.round.specs.Lists.{sum}
@@ -15,7 +15,8 @@ use Rattle.choice.proofs.TakingRule.{TakingRule}
 use Rattle.choice.proofs.Sets.{true-unless, clash}
 use Rattle.choice.proofs.Categories.{same}
 use Rattle.choice.proofs.Completion.{Lawful, completion, completion-within, completion-stays}
-use Rattle.choice.proofs.Agreement.{Alone, same-steps}
+use Rattle.choice.proofs.Chosen.{takenUnder, choose-offered}
+use Rattle.choice.proofs.Agreement.{Alone, agreement, same-steps}
 
 -- the offers and that of place p₀ of category c₀
 abbrev pub withOffer : (ℕ → Category → Bool) → ℕ → Category → ℕ → Category → Bool
@@ -41,3 +42,10 @@ module _ (marks : List ℕ) (taking : (reserved : List ℕ) → TakingRule (leng
           let inO : completion marks rules O p c ≡ true =
           true-unless _ (λ f. clash t (completion-stays marks taking rules lawful O (withOffer O p₀ c₀) (λ r d o. rw o) p c old f)) in
           rw (held p l c inO)
+
+  -- the same with what the choice itself holds of O
+  pub chosen-and-new : (O : ℕ → Category → Bool) → Alone (length marks) (completion marks rules O) → (p₀ : ℕ) (c₀ : Category) → Alone (length marks) (completion marks rules (withOffer O p₀ c₀)) → choose marks (withOffer (λ p c. takenUnder rules (getD (choose marks O rules) p 0) c) p₀ c₀) rules ≡ choose marks (withOffer O p₀ c₀) rules
+  chosen-and-new O alone =
+      held-and-new O (λ p c. takenUnder rules (getD (choose marks O rules) p 0) c)
+      (choose-offered marks O rules)
+      (λ p l c t. agreement marks taking rules lawful O alone p l c ∙ t)
