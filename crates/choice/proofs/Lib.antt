@@ -1,6 +1,6 @@
 pub mod TakingRule
 pub mod Sets
-pub mod Categories
+pub mod Offers
 pub mod Tabulate
 pub mod Filling
 pub mod Completion
