@@ -1,6 +1,15 @@
 pub mod Counting
+pub mod Sets
+pub mod Tabulate
 pub mod Use
 pub mod Tight
 pub mod Hall
 pub mod TakingRule
 pub mod Taking
+pub mod Filling
+pub mod Offers
+pub mod Completion
+pub mod Below
+pub mod Chosen
+pub mod Agreement
+pub mod HeldAndNew
