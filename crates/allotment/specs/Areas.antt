@@ -18,7 +18,7 @@ joined (l ∷ ls) = l ++ joined ls
 
 -- a two-byte number, little-endian
 abbrev pub wordBytes : ℕ → List ℕ
-wordBytes x = x % 256 ∷ x / 256 % 256 ∷ []
+wordBytes x = x % 256 ∷ (x / 256) % 256 ∷ []
 
 abbrev pub seatBytes : Seat → List ℕ
 seatBytes s = s .institute ∷ s .step ∷ []
@@ -27,7 +27,7 @@ abbrev pub seatIs : Seat → ℕ → ℕ → Bool
 seatIs s institute step = eqb (s .institute) institute && eqb (s .step) step
 
 module _ (r : Round) (list : List Seat) where
-  -- the closing place of step k at institute j: the largest merit place, from 1, among those seated there, 0 if nobody
+  -- document 01's closing place, of step k at institute j: the largest merit place, from 1, among those seated there, 0 if nobody
   unfoldable pub closingPlace : ℕ → ℕ → ℕ
   closingPlace j k =
       greatest (length (instituteAt r j .merit))

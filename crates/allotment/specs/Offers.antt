@@ -1,5 +1,6 @@
 -- What one institute of a round chooses from a set of offers to it (document 01, "One institute chooses" and "The words of demand 3").
--- A set of offers to an institute says of candidate i, from 0, and a category whether i's entry there is in the set.
+-- An offer is a candidate with one entry of that candidate's row. A set of offers to an institute says of candidate i, from 0, and a category
+-- whether i's entry there is in the set; that each is of the row is said where it matters.
 use Prim.Native.Nat.{ℕ, suc, _-_}
 use mathlib.Core.Bool.{Bool, not, _&&_}
 use mathlib.Core.List.{List, map}

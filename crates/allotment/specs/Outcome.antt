@@ -27,8 +27,8 @@ outcomeOf (Refused number offset) = refused number offset
 -- 14: both areas are large enough
 abbrev pub outcomeOn : Round → ℕ → ℕ → Outcome
 outcomeOn r answerLength workLength =
-    let offers = allotted (offersMade r) in
-    cond (leb (answerSize r) answerLength && leb (workSize r) workLength) offers (refused 14 0)
+    let all-well = allotted (offersMade r) in
+    cond (leb (answerSize r) answerLength && leb (workSize r) workLength) all-well (refused 14 0)
 
 abbrev pub outcomeBy : Verdict → Round → ℕ → ℕ → Outcome
 outcomeBy Refusal.passes r answerLength workLength = outcomeOn r answerLength workLength

@@ -28,7 +28,7 @@ module _ (r : Round) where
   abbrev pub instituteCount : ℕ
   instituteCount = length (r .institutes)
 
-  -- the offers made to institute j: the tried entries
+  -- the offers made to institute j: the tried entries; an entry not in the row has the row's length for its rank and is never tried
   unfoldable pub madeTo : List ℕ → ℕ → OfferSet
   madeTo tried j i c = ltb (rankIn (rowAt r i) (entryOf j c)) (getD tried i 0)
 
@@ -36,7 +36,7 @@ module _ (r : Round) where
   unfoldable pub chosen : List ℕ → List (List ℕ)
   chosen tried = tabulate instituteCount (λ j. stepsOn r j (madeTo tried j))
 
-  -- the seat of candidate i by these: the institute that holds i, and the step
+  -- the seat of candidate i by these: the institute that holds i, and the step; no two institutes ever hold one candidate
   unfoldable pub seatBy : List (List ℕ) → ℕ → Seat
   seatBy steps i =
       let stepBy : ℕ → ℕ = λ j. getD (getD steps j []) (placeOn r j i) 0 in
@@ -64,7 +64,8 @@ module _ (r : Round) where
   abbrev pub entryTotal : ℕ
   entryTotal = sum (map (λ c. length (c .row)) (r .candidates))
 
-  -- the state in which the process ends: every turn tries an entry, so there are no more turns than entries
+  -- the state in which the process ends: a turn tries one more entry while anyone may offer, and then none, so as many turns as there are
+  -- entries reach the end
   unfoldable pub tried : List ℕ
   tried = turns entryTotal (replicate candidateCount 0)
 
@@ -72,6 +73,6 @@ module _ (r : Round) where
   unfoldable pub offersMade : ℕ
   offersMade = sum tried
 
-  -- the list: the seat of each candidate
+  -- document 01's list: the seat of each candidate
   unfoldable pub seats : List Seat
   seats = seatsAfter tried

@@ -25,13 +25,13 @@ module _ (r : Round) (list : List Seat) where
   unfoldable pub stepOf : ℕ → ℕ → ℕ
   stepOf j i = cond (eqb (seatOn i .institute) (suc j)) (seatOn i .step) 0
 
-  -- a set of listed seats at institute j: any set of offers to it, each with an entry of its candidate's row
+  -- document 01's "set of listed seats" at institute j: any set of offers to it, each with an entry of its candidate's row
   unfoldable pub Listed : ℕ → OfferSet → Type 0
   Listed j set =
       (i : ℕ) (c : Category) → set i c ≡ true →
       (i < candidateCount r) × (rankIn (rowAt r i) (entryOf j c) < length (rowAt r i))
 
-  -- two sets have the same offers
+  -- two sets have the same offers; "another set" is one of which this does not hold
   unfoldable pub Same : OfferSet → OfferSet → Type 0
   Same set other = (i : ℕ) (c : Category) → i < candidateCount r → set i c ≡ other i c
 
@@ -39,11 +39,11 @@ module _ (r : Round) (list : List Seat) where
   abbrev pub together : ℕ → OfferSet → OfferSet
   together j set i c = set i c || given j i c
 
-  -- institute j would choose the set: the offers taken, from the set and the institute's seats together, are just those of the set
+  -- document 01's "would choose":  the offers taken, from the set and the institute's seats together, are just those of the set
   unfoldable pub WouldChoose : ℕ → OfferSet → Type 0
   WouldChoose j set = Same (takenFrom r j (together j set)) set
 
-  -- some offer of the set ranks below its candidate's seat: its entry stands later in the row than the seat's
+  -- some offer of the set "ranks below" its candidate's seat: its entry stands later in the row than the seat's
   unfoldable pub SomeBelow : ℕ → OfferSet → Type 0
   SomeBelow j set =
       (i : ℕ) × (c : Category) × (set i c ≡ true) × (standing r i (seatOn i) < rankIn (rowAt r i) (entryOf j c))
@@ -54,7 +54,7 @@ pub record Stable (r : Round) (list : List Seat) : Type 0 where
   pub listed : (i : ℕ) → i < candidateCount r → standing r i (seatOn r list i) ≤ length (rowAt r i)
   -- each institute, choosing from just the seats it gave, gives the same seats at the same steps
   pub kept : (j i : ℕ) → j < instituteCount r → i < candidateCount r → stepFor r j (given r list j) i ≡ stepOf r list j i
-  -- every other set of listed seats at an institute is not the one it would choose, or has an offer below its candidate's seat
+  -- for every other set of listed seats at an institute: where the institute would choose it, it has an offer below its candidate's seat
   pub unblocked :
       (j : ℕ) (set : OfferSet) → j < instituteCount r → Listed r list j set →
       (Same r list set (given r list j) → ⊥) →

@@ -34,8 +34,8 @@ standing r i s =
     let size : ℕ = length (rowAt r i) in
     cond (isNone s) size (cond (ltb (seatRank r i s) size) (seatRank r i s) (suc size))
 
--- two files alike in all but the row of candidate i: every other record is the same byte for byte, and so are the code and marks bytes of
--- that candidate's record
+-- document 01's "alike in all but one row", that of candidate i: every other record is the same byte for byte, and so are the code and
+-- marks bytes of that candidate's record; its length goes with its row
 pub record Alike (file other : List ℕ) (i : ℕ) : Type 0 where
   pub candidate : i < headOf file .candidates
   pub records : (k : ℕ) → k < recordCount (headOf file) → k ≢ candidateRecord (headOf file) i → recordOf file k ≡ recordOf other k

@@ -13,12 +13,12 @@ use Rattle.choice.specs.Step.{taken}
 pub record Progress : Type 0 where
   -- the step of each place, 0 for none
   pub given : List ℕ
-  -- the vacant positions handed to each step
+  -- the vacant positions handed to each step, by its number; what is handed to 0 goes to no step
   pub handed : ℕ → ℕ
 
 -- marks has the marks at each place; offered says which places offer their entry of a category
 module _ (marks : List ℕ) (offered : ℕ → Category → Bool) where
-  -- the step considers those who offer an entry of its category and have no step yet
+  -- the step considers those who offer an entry of its category and have no step yet; an open step considers every holder of an open entry
   unfoldable pub considers : StepRule → Progress → ℕ → Bool
   considers rule done p = offered p (rule .category) && eqb (getD (done .given) p 0) 0
 

@@ -8,7 +8,7 @@ use lib.ListN.{length, getD}
 use Rattle.round.specs.Lists.{count}
 use Rattle.choice.specs.Use.{useOf}
 
--- one more candidate raises the use of those taken
+-- one more candidate raises the use of those taken; a type without positions in the step raises nothing
 unfoldable pub raises : List ℕ → List ℕ → ℕ → Bool
 raises reserved before marks = ltb (useOf reserved before) (useOf reserved (marks ∷ before))
 
@@ -24,11 +24,11 @@ module _ (reserved marks : List ℕ) (considered : ℕ → Bool) where
   unfoldable pub takenForUse : ℕ → Bool
   takenForUse p = considered p && raises reserved (takenBefore p) (getD marks p 0)
 
-  -- considered, and left by the way down
+  -- considered, and left over
   unfoldable pub remaining : ℕ → Bool
   remaining p = considered p && not (takenForUse p)
 
-  -- taken to fill the remaining positions by merit: those taken for use and the better ones of the rest leave one
+  -- taken to fill the remaining positions by merit: those taken for use and the better ones left over leave a position
   unfoldable pub takenByMerit : ℕ → ℕ → Bool
   takenByMerit positions p =
       remaining p && ltb (count (length marks) takenForUse + count p remaining) positions

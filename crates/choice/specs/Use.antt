@@ -9,7 +9,7 @@ use Rattle.round.specs.Lists.{bit, count}
 
 -- the marks have type t, from 0
 unfoldable pub holds : ℕ → ℕ → Bool
-holds marks t = eqb (marks / 2 ^ t % 2) 1
+holds marks t = eqb ((marks / 2 ^ t) % 2) 1
 
 -- the positions with one of type t gone
 unfoldable pub oneLess : List ℕ → ℕ → List ℕ
@@ -32,7 +32,7 @@ useOf reserved (marks ∷ others) =
     cond (holds marks t && ltb 0 (getD reserved t 0)) one-more 0))
 
 -- to give each of these candidates a type, from 1, or none, 0: each gets a type that is held, and no type is given more
--- often than it has positions
+-- often than it has positions. By law, the use is the greatest number that a placing places
 pub record Placing (reserved marks types : List ℕ) : Type 0 where
   pub each : length types ≡ length marks
   pub held : (i t : ℕ) → i < length marks → getD types i 0 ≡ suc t → (t < length reserved) × (holds (getD marks i 0) t ≡ true)

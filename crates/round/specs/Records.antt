@@ -14,7 +14,7 @@ lengthAt file start = word file start
 abbrev pub kindAt : List ℕ → ℕ → ℕ
 kindAt file start = word file (start + 2)
 
--- the part of the file that starts behind the four lead bytes of the record that starts at a byte
+-- the part of the file that starts behind the four lead bytes of the record that starts at a byte, as long as they say
 abbrev pub bodyAt : List ℕ → ℕ → List ℕ
 bodyAt file start = take (lengthAt file start) (drop (start + 4) file)
 

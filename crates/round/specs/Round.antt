@@ -21,7 +21,7 @@ pub record Institute : Type 0 where
   -- candidate numbers, best first
   pub merit : List ℕ
 
--- a candidate; type t, from 1, is held where bit t - 1 of the marks is set
+-- a candidate; type t, from 1, is held where bit t - 1 of the marks is set. The entries of the row carry their own category
 pub record Candidate : Type 0 where
   pub category : Category
   pub marks : ℕ

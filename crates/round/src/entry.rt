@@ -17,7 +17,7 @@ pub struct Entry {
     pub category: Category,
 }
 
-// What a code byte stands for: one of the five categories, or nothing.
+// What a byte stands for: the category whose code it is, or nothing from 5 on.
 pub enum Coded {
     Known(Category),
     Unknown,
