@@ -2,3 +2,6 @@
 pub mod Pieces
 pub mod AreaSeats
 pub mod Accepting
+pub mod Bodies
+pub mod AlikeRounds
+pub mod Written

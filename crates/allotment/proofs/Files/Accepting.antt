@@ -1,8 +1,8 @@
 -- When a call answers "allotted" and when it refuses, and what each leaves in both areas.
-use Prim.Native.Nat.{ℕ, zero, suc, _+_, _*_, _<_, _≤_}
-use mathlib.Core.Path.{_≡_, refl, sym, ap, _∙_}
+use Prim.Native.Nat.{ℕ, _<_, _≤_}
+use mathlib.Core.Path.{_≡_, refl}
 use mathlib.Core.Bool.{Bool, true, false, cond, _&&_}
-use mathlib.Core.List.{List, [], _∷_, _++_}
+use mathlib.Core.List.{List, _++_}
 use native.Mathlib.Omega.{arith}
 use borrow.Author.Tests.{leb-true, le-leb, lt-leb}
 use lib.Dec.{leb}
@@ -14,7 +14,7 @@ use Rattle.round.specs.Refusal.{Verdict, verdict, passes}
 use Rattle.round.proofs.Words.{and-fst, and-snd}
 use Rattle.allotment.specs.Process.{offersMade}
 use Rattle.allotment.specs.Areas.{answerBytes, answerSize, workSize}
-use Rattle.allotment.specs.Outcome.{Outcome, allotted, refused, outcome, outcomeOn, outcomeBy, answerAfter, workAfter, Accepted}
+use Rattle.allotment.specs.Outcome.{Outcome, allotted, refused, outcome, outcomeOn, outcomeBy, answerAfter, workAfter}
 use Rattle.allotment.proofs.Files.AreaSeats.{length-answer}
 
 -- what it says of a call that it answers "allotted" with this number

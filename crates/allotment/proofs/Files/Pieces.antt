@@ -1,9 +1,9 @@
 -- Pieces of one width, one after the other: how long they are together, and what stands at a place of a piece.
 use Prim.Native.Nat.{ℕ, zero, suc, _+_, _*_, _<_}
-use mathlib.Core.Path.{_≡_, refl, sym, ap, _∙_}
-use mathlib.Core.List.{List, [], _∷_, _++_}
+use mathlib.Core.Path.{_≡_, sym, ap, _∙_}
+use mathlib.Core.List.{List}
 use native.Mathlib.Omega.{arith}
-use native.Mathlib.Nat.{mul-suc, mul-zero, suc-add, add-suc, add-zero, zero-add}
+use native.Mathlib.Nat.{mul-suc, mul-zero, add-zero, zero-add}
 use lib.ListN.{length, getD, length-append, List·getD-append}
 use lib.Seq.{getD-append-add}
 use Rattle.round.specs.Lists.{tabulate, tabulateFrom}
