@@ -5,3 +5,4 @@ pub mod Accepting
 pub mod Bodies
 pub mod AlikeRounds
 pub mod Written
+pub mod Promised
