@@ -4,5 +4,8 @@ pub mod AreaSeats
 pub mod Accepting
 pub mod Bodies
 pub mod AlikeRounds
-pub mod Written
 pub mod Promised
+pub mod Returns
+pub mod Written
+pub mod Kept
+pub mod Closing

@@ -5,7 +5,7 @@ use mathlib.Core.List.{List, [], _∷_, _++_}
 use native.Mathlib.Omega.{arith}
 use native.Mathlib.Numerals.{add-one}
 use lib.ListN.{length, getD, set, take, drop, length-append, length-take, length-drop}
-use lib.Seq.{take-length}
+use lib.Seq.{take-all}
 
 -- the area with the first k of these bytes written
 abbrev pub written : List ℕ → ℕ → List ℕ → List ℕ
@@ -35,8 +35,8 @@ written-two bytes k area low high l m e f =
     rw (written-one bytes k area low (omega arith) (omega arith) e, q) (written-one bytes (k + 1) area high l m f)
 
 -- all of them
-pub written-all : (bytes area : List ℕ) → written bytes (length bytes) area ≡ bytes ++ drop (length bytes) area
-written-all bytes area = ap (λ (s : List ℕ). s ++ drop (length bytes) area) (take-length bytes)
+pub written-all : (bytes : List ℕ) (k : ℕ) (area : List ℕ) → length bytes ≡ k → written bytes k area ≡ bytes ++ drop k area
+written-all bytes k area e = ap (λ (s : List ℕ). s ++ drop k area) (take-all k bytes (omega arith))
 
 pub length-written : (bytes : List ℕ) (k : ℕ) (area : List ℕ) → k ≤ length bytes → k ≤ length area → length (written bytes k area) ≡ length area
 length-written bytes k area l m =
