@@ -3,19 +3,18 @@ use Prim.Native.Nat.{ℕ, _<_, _≤_}
 use mathlib.Core.Path.{_≡_, refl}
 use mathlib.Core.Bool.{Bool, true, false, cond, _&&_}
 use mathlib.Core.List.{List, _++_}
-use native.Mathlib.Omega.{arith}
 use borrow.Author.Tests.{leb-true, le-leb, lt-leb}
 use lib.Dec.{leb}
-use lib.ListN.{length, drop, replicate, length-replicate}
+use lib.ListN.{length, getD, drop, replicate, length-replicate}
 use Rattle.round.specs.Round.{Round}
 use Rattle.round.specs.Reading.{roundOf}
 use Rattle.round.specs.Refusal as Refusal
 use Rattle.round.specs.Refusal.{Verdict, verdict, passes}
 use Rattle.round.proofs.Words.{and-fst, and-snd}
-use Rattle.allotment.specs.Process.{offersMade}
-use Rattle.allotment.specs.Areas.{answerBytes, answerSize, workSize}
-use Rattle.allotment.specs.Outcome.{Outcome, allotted, refused, outcome, outcomeOn, outcomeBy, answerAfter, workAfter}
-use Rattle.allotment.proofs.Files.AreaSeats.{length-answer}
+use Rattle.allotment.specs.Process.{noSeat, candidateCount, offersMade, seats}
+use Rattle.allotment.specs.Areas.{answerBytes, answerSize, workSize, seatIn, seatsIn}
+use Rattle.allotment.specs.Outcome.{Outcome, allotted, refused, outcome, outcomeOn, outcomeBy, answerAfter, workAfter, Accepted}
+use Rattle.allotment.proofs.Files.AreaSeats.{length-answer, seat-stands, seats-stand}
 
 -- what it says of a call that it answers "allotted" with this number
 pub record Accepting (file : List ℕ) (answerLength workLength offers : ℕ) : Type 0 where
@@ -28,19 +27,13 @@ no-room : (b : Bool) (here there : Outcome) → cond (b && false) here there ≡
 no-room true here there = refl
 no-room false here there = refl
 
-refusal : {A : Type 0} {number offset offers : ℕ} → refused number offset ≡ allotted offers → A
-refusal {A} {number} {offset} {offers} e = let z : _≡_ {A = ℕ} 0 1 = cc in absurd (differ z)
-  where
-    differ : _≡_ {A = ℕ} 0 1 → ⊥
-    differ z = omega arith
-
 room : (b : Bool) (offers number : ℕ) → cond b (allotted number) (refused 14 0) ≡ allotted offers → (b ≡ true) × (offers ≡ number)
 room true offers number e = (refl, cc)
-room false offers number e = refusal e
+room false offers number e = (cc, cc)
 
 pass : (v : Verdict) (r : Round) (a w offers : ℕ) → outcomeBy v r a w ≡ allotted offers → (v ≡ passes) × (outcomeOn r a w ≡ allotted offers)
 pass Refusal.passes r a w offers e = (refl, e)
-pass (Refusal.refused number offset) r a w offers e = refusal e
+pass (Refusal.refused number offset) r a w offers e = (cc, cc)
 
 module _ (file : List ℕ) (a w : ℕ) where
   -- the file is refused
@@ -99,3 +92,14 @@ module _ (file answer work : List ℕ) where
       → workAfter file answer work ≡ replicate (workSize (roundOf file)) 0 ++ drop (workSize (roundOf file)) work
   unfolding workAfter
   work-cleared offers e = rw (e, length-replicate {A = ℕ} (workSize (roundOf file)) 0)
+
+-- the list that stands in the answer area after an accepted call
+module _ (file answer work : List ℕ) (accepted : Accepted file answer work) where
+  pub accepted-passes : verdict file ≡ passes
+  accepted-passes = accepting file (length answer) (length work) (accepted .0) (accepted .1) .passing
+
+  pub seat-after : (i : ℕ) → i < candidateCount (roundOf file) → seatIn (answerAfter file answer work) i ≡ getD (seats (roundOf file)) i noSeat
+  seat-after i l = rw (answer-written file answer work (accepted .0) (accepted .1)) (seat-stands (roundOf file) _ i l)
+
+  pub seats-after : seatsIn (candidateCount (roundOf file)) (answerAfter file answer work) ≡ seats (roundOf file)
+  seats-after = rw (answer-written file answer work (accepted .0) (accepted .1)) (seats-stand (roundOf file) _)

@@ -8,7 +8,7 @@ use lib.Seq.{getD-append-add, ext-getD}
 use Rattle.round.specs.Lists.{tabulate}
 use Rattle.round.specs.Round.{Round}
 use Rattle.round.proofs.Words.{length-tabulate, tabulate-at}
-use Rattle.allotment.specs.Process.{Seat, noSeat, candidateCount, instituteCount, seatsAfter, seats}
+use Rattle.allotment.specs.Process.{noSeat, candidateCount, instituteCount, seatsAfter, seats}
 use Rattle.allotment.specs.Areas.{joined, wordBytes, seatBytes, closingPlace, closingBytes, answerBytes, answerSize, seatIn, seatsIn}
 use Rattle.allotment.proofs.Files.Pieces.{length-pieces, getD-pieces}
 
@@ -31,7 +31,7 @@ module _ (r : Round) where
   unfolding seatPart
   length-seatPart = length-pieces 2 (λ i. seatBytes (getD (seats r) i noSeat)) (λ i. refl) (candidateCount r)
 
-  length-closing : (j : ℕ) → length (closingBytes r (seats r) j) ≡ 12
+  pub length-closing : (j : ℕ) → length (closingBytes r (seats r) j) ≡ 12
   unfolding closingBytes
   length-closing j = length-pieces 2 (λ k. wordBytes (closingPlace r (seats r) j (suc k))) (λ k. refl) 6
 
@@ -56,14 +56,19 @@ module _ (r : Round) where
   pub answer-step : (i at : ℕ) → i < candidateCount r → at ≡ 2 * i + 1 → getD (answerBytes r) at 0 ≡ getD (seats r) i noSeat .step
   answer-step i at l e = rw e (seat-byte i 1 l (omega arith))
 
+  -- the bytes of institute j's closing places
+  pub answer-closing : (j b : ℕ) → j < instituteCount r → b < 12
+      → getD (answerBytes r) (2 * candidateCount r + (12 * j + b)) 0 ≡ getD (closingBytes r (seats r) j) b 0
+  unfolding closingPart
+  answer-closing j b l m =
+      rw (answer-parts, ← length-seatPart)
+      (getD-append-add seatPart closingPart (12 * j + b) 0 ∙ getD-pieces 12 (closingBytes r (seats r)) length-closing (instituteCount r) j b l m)
+
   closing-byte : (j k b : ℕ) → j < instituteCount r → k < 6 → b < 2
       → getD (answerBytes r) (2 * candidateCount r + (12 * j + (2 * k + b))) 0 ≡ getD (wordBytes (closingPlace r (seats r) j (suc k))) b 0
-  unfolding closingPart closingBytes
+  unfolding closingBytes
   closing-byte j k b l m o =
-      rw (answer-parts, ← length-seatPart)
-      (getD-append-add seatPart closingPart (12 * j + (2 * k + b)) 0
-      ∙ (getD-pieces 12 (closingBytes r (seats r)) length-closing (instituteCount r) j (2 * k + b) l (omega arith)
-      ∙ getD-pieces 2 (λ k. wordBytes (closingPlace r (seats r) j (suc k))) (λ k. refl) 6 k b m o))
+      answer-closing j (2 * k + b) l (omega arith) ∙ getD-pieces 2 (λ k. wordBytes (closingPlace r (seats r) j (suc k))) (λ k. refl) 6 k b m o
 
   -- the two bytes of the closing place of step k, from 0, at institute j
   pub answer-closing-low : (j k at : ℕ) → j < instituteCount r → k < 6 → at ≡ 2 * candidateCount r + 12 * j + 2 * k

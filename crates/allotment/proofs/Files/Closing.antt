@@ -1,6 +1,6 @@
 -- A closing place as it is found by going down the merit list: the last place so far that is seated at the step.
-use Prim.Native.Nat.{ℕ, zero, suc, _-_, _<_, _≤_, max}
-use mathlib.Core.Path.{_≡_, refl, sym, ap, _∙_}
+use Prim.Native.Nat.{ℕ, zero, suc, _≤_, max}
+use mathlib.Core.Path.{_≡_, refl}
 use mathlib.Core.Bool.{Bool, true, false, cond}
 use mathlib.Core.List.{List}
 use native.Mathlib.Omega.{arith}

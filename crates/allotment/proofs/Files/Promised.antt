@@ -1,28 +1,24 @@
 -- The whole promise of a call from its answer and both areas, given that every sound round is stable and truthful.
 use Prim.Native.Nat.{ℕ, _<_, _≤_}
-use mathlib.Core.Path.{_≡_, refl, sym, ap, _∙_}
+use mathlib.Core.Path.{_≡_, sym, ap}
 use mathlib.Core.Logic.{_≢_}
-use mathlib.Core.List.{List, _++_}
+use mathlib.Core.List.{List}
 use native.Mathlib.Omega.{arith}
-use lib.ListN.{length, getD, drop, replicate}
+use lib.ListN.{length, getD}
 use Rattle.round.specs.Records.{Head, headOf}
-use Rattle.round.specs.Refusal as Refusal
-use Rattle.round.specs.Refusal.{verdict, passes}
 use Rattle.round.specs.Round.{Round}
 use Rattle.round.specs.Reading.{roundOf}
 use Rattle.round.specs.Places.{candidateAt}
 use Rattle.round.specs.Sound.{Sound}
 use Rattle.round.proofs.Sound.{sound}
 use Rattle.allotment.specs.declared.Answer.{Answer}
-use Rattle.allotment.specs.declared.Answer.the-variants.{Allotted, Refused}
-use Rattle.allotment.specs.Process.{noSeat, candidateCount, offersMade, seats}
-use Rattle.allotment.specs.Areas.{answerBytes, answerSize, workSize, seatIn, seatsIn}
+use Rattle.allotment.specs.Process.{noSeat, candidateCount, seats}
+use Rattle.allotment.specs.Areas.{seatsIn}
 use Rattle.allotment.specs.Outcome.{outcomeOf, outcome, answerAfter, workAfter, Accepted}
-use Rattle.allotment.specs.Truthful.{standing, Alike, Truthful}
+use Rattle.allotment.specs.Truthful.{standing, Truthful}
 use Rattle.allotment.specs.Stable.{Stable}
 use Rattle.allotment.specs.Promise.{Promise}
-use Rattle.allotment.proofs.Files.AreaSeats.{seat-stands, seats-stand}
-use Rattle.allotment.proofs.Files.Accepting.{Accepting, accepting, answer-written}
+use Rattle.allotment.proofs.Files.Accepting.{accepted-passes, seat-after, seats-after}
 use Rattle.allotment.proofs.Files.AlikeRounds.{same-head, same-institutes, same-count, inside, same-candidate, same-category, same-marks}
 
 -- the list of every sound round is stable
@@ -38,17 +34,6 @@ TruthfulRounds =
     candidateAt r i .category ≡ candidateAt other i .category → candidateAt r i .marks ≡ candidateAt other i .marks →
     standing r i (getD (seats r) i noSeat) ≤ standing r i (getD (seats other) i noSeat)
 
--- after an accepted call
-module _ (file answer work : List ℕ) (accepted : Accepted file answer work) where
-  passing : verdict file ≡ passes
-  passing = accepting file (length answer) (length work) (accepted .0) (accepted .1) .passing
-
-  pub seat-after : (i : ℕ) → i < candidateCount (roundOf file) → seatIn (answerAfter file answer work) i ≡ getD (seats (roundOf file)) i noSeat
-  seat-after i l = rw (answer-written file answer work (accepted .0) (accepted .1)) (seat-stands (roundOf file) _ i l)
-
-  pub seats-after : seatsIn (candidateCount (roundOf file)) (answerAfter file answer work) ≡ seats (roundOf file)
-  seats-after = rw (answer-written file answer work (accepted .0) (accepted .1)) (seats-stand (roundOf file) _)
-
 module _ (stableRound : StableRounds) (truthfulRound : TruthfulRounds) where
   truthful : (file answer work : List ℕ) → Accepted file answer work → Truthful file (answerAfter file answer work)
   unfolding Truthful
@@ -56,17 +41,17 @@ module _ (stableRound : StableRounds) (truthfulRound : TruthfulRounds) where
       let l : i < candidateCount (roundOf file) = inside file other i alike in
       let m : i < candidateCount (roundOf other) = omega (arith, same-count file other i alike) in
       let types : headOf other .types ≡ headOf file .types = sym (ap (λ (h : Head). h .types) (same-head file other i alike)) in
-      let s : Sound (headOf file .types) (roundOf other) = rw types at (sound other (passing other otherAnswer otherWork otherAccepted)) in
+      let s : Sound (headOf file .types) (roundOf other) = rw types at (sound other (accepted-passes other otherAnswer otherWork otherAccepted)) in
       rw (seat-after file answer work accepted i l, seat-after other otherAnswer otherWork otherAccepted i m)
       (truthfulRound (headOf file .types) (roundOf file) (roundOf other) i
-      (sound file (passing file answer work accepted)) s
+      (sound file (accepted-passes file answer work accepted)) s
       (same-institutes file other i alike) (same-count file other i alike) l (same-candidate file other i alike)
       (same-category file other i alike) (same-marks file other i alike))
 
   stable : (file answer work : List ℕ) → Accepted file answer work
       → Stable (roundOf file) (seatsIn (candidateCount (roundOf file)) (answerAfter file answer work))
   stable file answer work accepted =
-      rw (seats-after file answer work accepted) (stableRound (headOf file .types) (roundOf file) (sound file (passing file answer work accepted)))
+      rw (seats-after file answer work accepted) (stableRound (headOf file .types) (roundOf file) (sound file (accepted-passes file answer work accepted)))
 
   -- the answer and both areas are the defined ones
   pub promised : (file answer work : List ℕ) (result : Answer) (answerNow workNow : List ℕ)

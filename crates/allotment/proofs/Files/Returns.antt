@@ -1,6 +1,6 @@
 -- The promise at each return of a call: the file refused, an area too small, and allotted.
 use Prim.Native.Nat.{ℕ, _<_, _≤_}
-use mathlib.Core.Path.{_≡_, refl, sym, ap, _∙_}
+use mathlib.Core.Path.{_≡_, sym, _∙_}
 use mathlib.Core.List.{List, _++_}
 use lib.ListN.{length, drop, replicate}
 use Rattle.round.specs.Refusal as Refusal
@@ -11,7 +11,8 @@ use Rattle.allotment.specs.Process.{offersMade}
 use Rattle.allotment.specs.Areas.{answerBytes, answerSize, workSize}
 use Rattle.allotment.specs.Outcome.{refused, outcome}
 use Rattle.allotment.specs.Promise.{Promise}
-use Rattle.allotment.proofs.Files.Accepting.{outcome-refused, outcome-answer-small, outcome-work-small, outcome-allotted, answer-stays, work-stays, answer-written, work-cleared}
+use Rattle.allotment.proofs.Files.Accepting.{outcome-refused, outcome-answer-small, outcome-work-small, outcome-allotted}
+use Rattle.allotment.proofs.Files.Accepting.{answer-stays, work-stays, answer-written, work-cleared}
 use Rattle.allotment.proofs.Files.Promised.{StableRounds, TruthfulRounds, promised}
 
 module _ (stableRound : StableRounds) (truthfulRound : TruthfulRounds) (file answer work : List ℕ) where
