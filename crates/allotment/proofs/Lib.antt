@@ -1,2 +1,3 @@
 pub mod Market
 pub mod Starred
+pub mod Files

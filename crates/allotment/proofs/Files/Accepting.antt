@@ -1,0 +1,105 @@
+-- When a call answers "allotted" and when it refuses, and what each leaves in both areas.
+use Prim.Native.Nat.{ℕ, _<_, _≤_}
+use mathlib.Core.Path.{_≡_, refl}
+use mathlib.Core.Bool.{Bool, true, false, cond, _&&_}
+use mathlib.Core.List.{List, _++_}
+use borrow.Author.Tests.{leb-true, le-leb, lt-leb}
+use lib.Dec.{leb}
+use lib.ListN.{length, getD, drop, replicate, length-replicate}
+use Rattle.round.specs.Round.{Round}
+use Rattle.round.specs.Reading.{roundOf}
+use Rattle.round.specs.Refusal as Refusal
+use Rattle.round.specs.Refusal.{Verdict, verdict, passes}
+use Rattle.round.proofs.Words.{and-fst, and-snd}
+use Rattle.allotment.specs.Process.{noSeat, candidateCount, offersMade, seats}
+use Rattle.allotment.specs.Areas.{answerBytes, answerSize, workSize, seatIn, seatsIn}
+use Rattle.allotment.specs.Outcome.{Outcome, allotted, refused, outcome, outcomeOn, outcomeBy, answerAfter, workAfter, Accepted}
+use Rattle.allotment.proofs.Files.AreaSeats.{length-answer, seat-stands, seats-stand}
+
+-- what it says of a call that it answers "allotted" with this number
+pub record Accepting (file : List ℕ) (answerLength workLength offers : ℕ) : Type 0 where
+  pub passing : verdict file ≡ passes
+  pub answer-large : answerSize (roundOf file) ≤ answerLength
+  pub work-large : workSize (roundOf file) ≤ workLength
+  pub number : offers ≡ offersMade (roundOf file)
+
+no-room : (b : Bool) (here there : Outcome) → cond (b && false) here there ≡ there
+no-room true here there = refl
+no-room false here there = refl
+
+room : (b : Bool) (offers number : ℕ) → cond b (allotted number) (refused 14 0) ≡ allotted offers → (b ≡ true) × (offers ≡ number)
+room true offers number e = (refl, cc)
+room false offers number e = (cc, cc)
+
+pass : (v : Verdict) (r : Round) (a w offers : ℕ) → outcomeBy v r a w ≡ allotted offers → (v ≡ passes) × (outcomeOn r a w ≡ allotted offers)
+pass Refusal.passes r a w offers e = (refl, e)
+pass (Refusal.refused number offset) r a w offers e = (cc, cc)
+
+module _ (file : List ℕ) (a w : ℕ) where
+  -- the file is refused
+  pub outcome-refused : (number offset : ℕ) → verdict file ≡ Refusal.refused number offset → outcome file a w ≡ refused number offset
+  unfolding outcome
+  outcome-refused number offset e = rw e
+
+  -- 14: an area is too small
+  pub outcome-answer-small : verdict file ≡ passes → a < answerSize (roundOf file) → outcome file a w ≡ refused 14 0
+  unfolding outcome
+  outcome-answer-small e l = rw (e, lt-leb (answerSize (roundOf file)) a l)
+
+  pub outcome-work-small : verdict file ≡ passes → w < workSize (roundOf file) → outcome file a w ≡ refused 14 0
+  unfolding outcome
+  outcome-work-small e l =
+      rw (e, lt-leb (workSize (roundOf file)) w l) (no-room (leb (answerSize (roundOf file)) a) _ _)
+
+  pub outcome-allotted : verdict file ≡ passes → answerSize (roundOf file) ≤ a → workSize (roundOf file) ≤ w
+      → outcome file a w ≡ allotted (offersMade (roundOf file))
+  unfolding outcome
+  outcome-allotted e l m = rw (e, le-leb (answerSize (roundOf file)) a l, le-leb (workSize (roundOf file)) w m)
+
+  pub accepting : (offers : ℕ) → outcome file a w ≡ allotted offers → Accepting file a w offers
+  unfolding outcome
+  accepting offers e =
+      let r : Round = roundOf file in
+      let p = pass (verdict file) r a w offers e in
+      let q = room (leb (answerSize r) a && leb (workSize r) w) offers (offersMade r) (p .1) in
+      record {
+        passing = p .0;
+        answer-large = leb-true _ _ (and-fst _ (leb (workSize r) w) (q .0));
+        work-large = leb-true _ _ (and-snd (leb (answerSize r) a) _ (q .0));
+        number = q .1;
+      }
+
+-- what a call leaves in both areas
+module _ (file answer work : List ℕ) where
+  abbrev called : Outcome
+  called = outcome file (length answer) (length work)
+
+  -- a refusal changes neither area
+  pub answer-stays : (number offset : ℕ) → called ≡ refused number offset → answerAfter file answer work ≡ answer
+  unfolding answerAfter
+  answer-stays number offset e = rw e
+
+  pub work-stays : (number offset : ℕ) → called ≡ refused number offset → workAfter file answer work ≡ work
+  unfolding workAfter
+  work-stays number offset e = rw e
+
+  pub answer-written : (offers : ℕ) → called ≡ allotted offers
+      → answerAfter file answer work ≡ answerBytes (roundOf file) ++ drop (answerSize (roundOf file)) answer
+  unfolding answerAfter
+  answer-written offers e = rw (e, length-answer (roundOf file))
+
+  pub work-cleared : (offers : ℕ) → called ≡ allotted offers
+      → workAfter file answer work ≡ replicate (workSize (roundOf file)) 0 ++ drop (workSize (roundOf file)) work
+  unfolding workAfter
+  work-cleared offers e = rw (e, length-replicate {A = ℕ} (workSize (roundOf file)) 0)
+
+-- the list that stands in the answer area after an accepted call
+module _ (file answer work : List ℕ) (accepted : Accepted file answer work) where
+  pub accepted-passes : verdict file ≡ passes
+  accepted-passes = accepting file (length answer) (length work) (accepted .0) (accepted .1) .passing
+
+  pub seat-after : (i : ℕ) → i < candidateCount (roundOf file) → seatIn (answerAfter file answer work) i ≡ getD (seats (roundOf file)) i noSeat
+  seat-after i l = rw (answer-written file answer work (accepted .0) (accepted .1)) (seat-stands (roundOf file) _ i l)
+
+  pub seats-after : seatsIn (candidateCount (roundOf file)) (answerAfter file answer work) ≡ seats (roundOf file)
+  seats-after = rw (answer-written file answer work (accepted .0) (accepted .1)) (seats-stand (roundOf file) _)
