@@ -2,3 +2,4 @@ pub mod Words
 pub mod Passed
 pub mod Answers
 pub mod Sound
+pub mod Seen

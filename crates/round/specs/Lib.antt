@@ -7,3 +7,4 @@ pub mod Refusal
 pub mod Reading
 pub mod Places
 pub mod Sound
+pub mod Read
