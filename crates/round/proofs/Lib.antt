@@ -3,3 +3,5 @@ pub mod Passed
 pub mod Answers
 pub mod Sound
 pub mod Seen
+pub mod Found
+pub mod Run

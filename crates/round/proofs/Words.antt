@@ -162,3 +162,10 @@ or-true b e = rw e
 
 pub or-false : {a b : Bool} → a ≡ false → b ≡ a || b
 or-false e = rw e
+
+-- the cases of a test
+pub cond-yes : {A : Type 0} {b : Bool} {z : A} (x y : A) → b ≡ true → z ≡ x → z ≡ cond b x y
+cond-yes x y e d = rw e d
+
+pub cond-no : {A : Type 0} {b : Bool} {z : A} (x y : A) → b ≡ false → z ≡ y → z ≡ cond b x y
+cond-no x y e d = rw e d

@@ -8,3 +8,4 @@ pub mod Reading
 pub mod Places
 pub mod Sound
 pub mod Read
+pub mod Parts

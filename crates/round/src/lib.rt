@@ -4,4 +4,5 @@ pub mod entry;
 pub mod head;
 pub mod institute;
 pub mod merit;
+pub mod records;
 pub mod word;
