@@ -5,3 +5,4 @@ pub mod Sound
 pub mod Seen
 pub mod Found
 pub mod Run
+pub mod Rest

@@ -61,9 +61,11 @@ module _ (file : List ℕ) (h : Head) (kind count from : ℕ) (before : List ℕ
         let none : count - i ≡ 0 = omega (arith, run .some) in
         let all : i ≡ count = omega (arith, run .some) in
         record {
-          verdict-of = λ kinds. rw none at (run .rest kinds);
-          inside = λ end e. let q : here ≡ end = cc in rw q at (run .inside);
-          ends = λ a end d e. let q : here ≡ end = cc in sym q ∙ (run .due a d ∙ ap (λ (n : ℕ). startOf file (a + n)) all);
+          part = record {
+            verdict-of = λ kinds. rw none at (run .rest kinds);
+            inside = λ end e. let q : here ≡ end = cc in rw q at (run .inside);
+            ends = λ a end d e. let q : here ≡ end = cc in sym q ∙ (run .due a d ∙ ap (λ (n : ℕ). startOf file (a + n)) all);
+          };
           starts-at = λ a end k d e l. run .told a d k (omega arith);
           starts-kept = λ k l. run .kept k (omega arith);
         }
@@ -79,9 +81,11 @@ module _ (file : List ℕ) (h : Head) (kind count from : ℕ) (before : List ℕ
 
       pub run-refused : {n o : ℕ} → r ≡ Refused n o → RunRead file h kind count from before r starts
       run-refused {n} {o} e = record {
-        verdict-of = λ kinds. same kinds;
-        inside = λ end d. no-refusal (sym d ∙ e);
-        ends = λ a end q d. no-refusal (sym d ∙ e);
+        part = record {
+          verdict-of = λ kinds. same kinds;
+          inside = λ end d. no-refusal (sym d ∙ e);
+          ends = λ a end q d. no-refusal (sym d ∙ e);
+        };
         starts-at = λ a end k q d m. no-refusal (sym d ∙ e);
         starts-kept = λ k m. run .kept k (omega (arith, run .some));
       }

@@ -9,3 +9,4 @@ pub mod Places
 pub mod Sound
 pub mod Read
 pub mod Parts
+pub mod Outcome

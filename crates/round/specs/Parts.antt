@@ -19,12 +19,16 @@ abbrev pub onward : Part → (ℕ → Verdict) → Verdict
 onward (Lawful end) rest = rest end
 onward (Refused number offset) rest = refused number offset
 
--- what the records of a kind come to, so many from a byte on, with the table of their starts as it was and is
-pub record RunRead (file : List ℕ) (h : Head) (kind count from : ℕ) (before : List ℕ) (r : Part) (starts : List ℕ) : Type 0 where
+-- what the records of a kind come to, so many from a byte on
+pub record RunPart (file : List ℕ) (h : Head) (kind count from : ℕ) (r : Part) : Type 0 where
   -- the verdict goes on from the answer, whatever is due after these records
   pub verdict-of : (kinds : List ℕ) → onward r (verdictFrom file h kinds) ≡ verdictFrom file h (replicate count kind ++ kinds) from
   pub inside : (end : ℕ) → r ≡ Lawful end → end ≤ length file
-  -- record number a starts at the byte `from`
+  -- where record number a starts at the byte `from`
   pub ends : (a end : ℕ) → from ≡ startOf file a → r ≡ Lawful end → end ≡ startOf file (a + count)
+
+-- the same, with the table of their starts as it was and is
+pub record RunRead (file : List ℕ) (h : Head) (kind count from : ℕ) (before : List ℕ) (r : Part) (starts : List ℕ) : Type 0 where
+  pub part : RunPart file h kind count from r
   pub starts-at : (a end k : ℕ) → from ≡ startOf file a → r ≡ Lawful end → k < count → getD starts k 0 ≡ startOf file (a + k)
   pub starts-kept : (k : ℕ) → count ≤ k → getD starts k 0 ≡ getD before k 0

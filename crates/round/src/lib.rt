@@ -4,5 +4,6 @@ pub mod entry;
 pub mod head;
 pub mod institute;
 pub mod merit;
+pub mod reader;
 pub mod records;
 pub mod word;

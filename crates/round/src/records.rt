@@ -94,7 +94,7 @@ fn body_no(body: &[u8], h: Head, kind: usize) -> usize
 }
 
 // All questions of the record due with a kind at a byte.
-fn read_record(file: &[u8], at: usize, h: Head, kind: usize) -> Part
+pub fn read_record(file: &[u8], at: usize, h: Head, kind: usize) -> Part
     requires { ⌜ InRange (asHead h) ⌝ }
     requires { ⌜ at ≤ length (now file) ⌝ }
     ensures { λ r. ⌜ r ≡ partBy (firstNo (questionsAt (now (file .entry)) (asHead h) kind at)) at (nextAt (now (file .entry)) at) ⌝ }
