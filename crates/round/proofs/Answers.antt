@@ -11,6 +11,7 @@ use lib.ListN.{length, getD, take, drop, length-take, length-drop}
 use Rattle.round.specs.Lists.{sumOf, all, apart}
 use Rattle.round.specs.Records.{Head, headIn, word, kindAt, lengthAt, bodyAt}
 use Rattle.round.specs.Questions.{within, even, lengthAllowed, firstNo, questionsAt, kindQuestions, headQuestions, instituteQuestions, candidateQuestions, meritQuestions, positionsIn, reservedIn, entryCount, instituteIn, codeIn, meritCount, meritIn}
+use Rattle.round.specs.Read.{InRange}
 use Rattle.round.proofs.Words.{and-fst, and-snd, and-no, or-cases, all-at, apart-at}
 use Rattle.round.proofs.Passed.{yes}
 
@@ -51,15 +52,7 @@ lead-yes file h kind start e =
     }
 
 -- 5
-pub record HeadYes (h : Head) : Type 0 where
-  pub candidates-least : 1 ≤ h .candidates
-  pub candidates-most : h .candidates ≤ 512
-  pub institutes-least : 1 ≤ h .institutes
-  pub institutes-most : h .institutes ≤ 32
-  pub types-most : h .types ≤ 8
-  pub policy-most : h .policy ≤ 1
-
-pub head-yes : (body : List ℕ) → firstNo (headQuestions body) ≡ 0 → HeadYes (headIn body)
+pub head-yes : (body : List ℕ) → firstNo (headQuestions body) ≡ 0 → InRange (headIn body)
 head-yes body e =
     let h = headIn body in
     let a = yes 4 _ _ e .0 in

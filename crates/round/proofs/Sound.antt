@@ -18,6 +18,7 @@ use Rattle.round.specs.Refusal.{passes, verdict}
 use Rattle.round.specs.Round.{StepRule, Institute, Candidate}
 use Rattle.round.specs.Reading.{stepIn, dereserved, stepsIn, entryIn, candidateIn, instituteFrom, roundOf}
 use Rattle.round.specs.Places.{candidateAt, instituteAt, entryAt, stepAt, meritAt, noEntry, noCandidate, noInstitute, noStep}
+use Rattle.round.specs.Read.{InRange}
 use Rattle.round.specs.Sound.{SoundCandidate, SoundInstitute, Sound}
 use Rattle.round.proofs.Words.{length-tabulate, tabulate-at, sum-tabulate}
 use Rattle.round.proofs.Passed.{Passed, passed}
@@ -181,7 +182,7 @@ module _ (file : List ℕ) where
       length-tabulate 0 (headOf file .institutes) (λ j. instituteFrom (headOf file) (bodyOf file (instituteRecord (headOf file) j)) (bodyOf file (meritRecord (headOf file) j)))
 
   module _ (p : Passed file) where
-    pub head-fits : Answers.HeadYes (headOf file)
+    pub head-fits : InRange (headOf file)
     head-fits = Answers.head-yes (bodyAt file 0) (Answers.lead-yes file (headOf file) 1 0 (p .head-yes) .body-yes)
 
     candidate-sound : (i : ℕ) → i < headOf file .candidates → SoundCandidate (headOf file .institutes) (headOf file .types) (candidateAt (roundOf file) i)

@@ -1,12 +1,14 @@
 -- Laws of the words of specs/Lists.antt, and of tests.
-use Prim.Native.Nat.{ℕ, zero, suc, _+_, _<_, _≤_}
+use Prim.Native.Nat.{ℕ, zero, suc, _+_, _*_, _%_, _^_, _<_, _≤_}
 use mathlib.Core.Path.{_≡_, refl, sym, ap, _∙_}
 use mathlib.Core.Bool.{Bool, true, false, not, cond, _&&_, _||_}
 use mathlib.Core.Logic.{_⊎_, inl, inr, ⊎-elim}
 use mathlib.Core.List.{List, [], _∷_, _++_}
 use native.Mathlib.Omega.{arith}
-use native.Mathlib.Nat.{add-zero, add-suc, suc-add, zero-add}
-use borrow.Author.Tests.{not-true, leb-true, eqb-true}
+use native.Mathlib.Numerals.{add-one}
+use native.Mathlib.Nat.{add-zero, add-suc, suc-add, zero-add, mul-le-mul-left}
+use borrow.Author.Tests.{not-true, not-false, leb-true, eqb-true, le-leb, lt-leb}
+use Rattle.round.specs.Questions.{within}
 use lib.Dec.{leb, eqb}
 use lib.ListN.{length, getD}
 use Rattle.round.specs.Lists.{tabulate, tabulateFrom, sum, sumOf, all, apart}
@@ -81,3 +83,89 @@ sum-tabulateFrom s (suc n) f =
 
 pub sum-tabulate : (n : ℕ) (f : ℕ → ℕ) → sum (tabulate n f) ≡ sumOf n f
 sum-tabulate n f = sum-tabulateFrom 0 n f ∙ simp zero-add
+
+-- tests of a number that code has read
+pub within-no : (low high : ℕ) {x y : ℕ} {r : Bool} → x ≡ y → r ≡ within low high x → not r ≡ true → within low high y ≡ false
+within-no low high {x} {y} {r} e f n = rw e at (sym f ∙ not-true r n)
+
+pub within-yes : (low high : ℕ) {x y : ℕ} {r : Bool} → x ≡ y → r ≡ within low high x → not r ≡ false → within low high y ≡ true
+within-yes low high {x} {y} {r} e f n = rw e at (sym f ∙ not-false r n)
+
+pub leb-no : (most : ℕ) {x y : ℕ} → x ≡ y → most < x → leb y most ≡ false
+leb-no most {x} {y} e l = lt-leb y most (omega arith)
+
+pub leb-yes : (most : ℕ) {x y : ℕ} → x ≡ y → x ≤ most → leb y most ≡ true
+leb-yes most {x} {y} e l = le-leb y most (omega arith)
+
+-- the words of a code stand before those of the fifth
+pub slot : (types code : ℕ) → code < 5 → (1 + types) * code ≤ 4 + 4 * types
+slot types code l = omega (arith, mul-le-mul-left (1 + types) h)
+  where
+    h : code ≤ 4
+    h = omega arith
+
+-- a loop that sums f 0, f 1, ..: one turn, and the end
+pub sum-step : (f : ℕ → ℕ) (i : ℕ) {s v : ℕ} → s ≡ sumOf i f → v ≡ f i → s + v ≡ sumOf (i + 1) f
+sum-step f i {s} {v} e d = rw add-one (omega arith)
+
+-- a loop that tests f 0, f 1, ..: one turn, and a test that fails
+pub all-step : (f : ℕ → Bool) (i : ℕ) → all i f ≡ true → f i ≡ true → all (i + 1) f ≡ true
+all-step f i e d = rw (add-one, d) e
+
+pub all-no : (n : ℕ) (f : ℕ → Bool) (i : ℕ) → i < n → f i ≡ false → all n f ≡ false
+all-no n f i l d = go (all n f) refl
+  where
+    go : (b : Bool) → all n f ≡ b → all n f ≡ false
+    go true e = clash (sym (all-at n f e i l) ∙ d)
+    go false e = e
+
+-- the end of a loop that counts up
+pub reached : {A : Type 0} (f : ℕ → A) {i n : ℕ} {x : A} → i ≤ n → n ≤ i → f i ≡ x → x ≡ f n
+reached f {i} {n} {x} l m e = let q : i ≡ n = omega arith in sym (rw q at e)
+
+-- a test of two numbers that code has read
+pub leb-both-no : {a b x y : ℕ} → x ≡ a → y ≡ b → y < x → leb a b ≡ false
+leb-both-no {a} {b} {x} {y} e d l = lt-leb a b (omega arith)
+
+pub leb-both-yes : {a b x y : ℕ} → x ≡ a → y ≡ b → x ≤ y → leb a b ≡ true
+leb-both-yes {a} {b} {x} {y} e d l = le-leb a b (omega arith)
+
+-- the first question of several is answered no, or yes
+pub ask-no : {b : Bool} (rest n : ℕ) → b ≡ false → n ≡ cond b rest n
+ask-no rest n e = rw e
+
+pub ask-yes : {b : Bool} {x : ℕ} (rest n : ℕ) → b ≡ true → x ≡ rest → x ≡ cond b rest n
+ask-yes rest n e d = rw e d
+
+-- a mark's place value, as the code computes it
+pub power : (t : ℕ) → t ≤ 8 → 1 * 2 ^ t % 18446744073709551616 ≡ 2 ^ t
+power zero l = refl
+power (suc zero) l = refl
+power (suc (suc zero)) l = refl
+power (suc (suc (suc zero))) l = refl
+power (suc (suc (suc (suc zero)))) l = refl
+power (suc (suc (suc (suc (suc zero))))) l = refl
+power (suc (suc (suc (suc (suc (suc zero)))))) l = refl
+power (suc (suc (suc (suc (suc (suc (suc zero))))))) l = refl
+power (suc (suc (suc (suc (suc (suc (suc (suc zero)))))))) l = refl
+power (suc (suc (suc (suc (suc (suc (suc (suc (suc t))))))))) l = absurd (omega arith)
+
+-- both tests of an entry
+pub and-false : {a : Bool} (b : Bool) → a ≡ false → false ≡ a && b
+and-false b e = rw e
+
+pub and-true : {a b c : Bool} → a ≡ true → c ≡ b → c ≡ a && b
+and-true e d = rw e d
+
+pub or-true : {a : Bool} (b : Bool) → a ≡ true → true ≡ a || b
+or-true b e = rw e
+
+pub or-false : {a b : Bool} → a ≡ false → b ≡ a || b
+or-false e = rw e
+
+-- the cases of a test
+pub cond-yes : {A : Type 0} {b : Bool} {z : A} (x y : A) → b ≡ true → z ≡ x → z ≡ cond b x y
+cond-yes x y e d = rw e d
+
+pub cond-no : {A : Type 0} {b : Bool} {z : A} (x y : A) → b ≡ false → z ≡ y → z ≡ cond b x y
+cond-no x y e d = rw e d

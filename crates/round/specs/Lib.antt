@@ -7,3 +7,6 @@ pub mod Refusal
 pub mod Reading
 pub mod Places
 pub mod Sound
+pub mod Read
+pub mod Parts
+pub mod Outcome

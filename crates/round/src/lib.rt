@@ -1,2 +1,9 @@
 // What a round file holds, and its reader.
+pub mod candidate;
 pub mod entry;
+pub mod head;
+pub mod institute;
+pub mod merit;
+pub mod reader;
+pub mod records;
+pub mod word;

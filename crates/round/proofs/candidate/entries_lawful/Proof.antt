@@ -1,0 +1,70 @@
+use Rattle.round.specs.Questions.{entryCount}
+use borrow.Author.Needs.{needs}
+use Prim.Native.Nat.{ℕ, _≤_, _<_, _-_}
+use mathlib.Core.Path.{_≡_, refl, sym, ap, _∙_}
+use mathlib.Core.Bool.{true}
+use native.Mathlib.Omega.{arith}
+use borrow.Author.Tests.{not-true, not-false}
+use denote.Ref.{now}
+use Rattle.round.specs.Lists.{all}
+use Rattle.round.specs.Read.{asHead, lawfulIn}
+use Rattle.round.proofs.Words.{all-step, all-no, reached}
+use Rattle.round.proofs.candidate.entries_lawful.Statement.{statement}
+use Rattle.round.proofs.candidate.entries_lawful.Tie as tie
+
+abbrev Inv-loop : tie.InvT-loop
+Inv-loop body h count k₀ k = (k ≤ count) × (all k (lawfulIn (asHead h) body) ≡ true)
+
+abbrev μ-loop : tie.MeasureT-loop
+μ-loop body h count k₀ k = count - k
+
+entry-count-requires : tie.Need-entry-count-requires Inv-loop μ-loop
+entry-count-requires c κs = search needs
+
+loop-holds : tie.Need-loop-holds Inv-loop μ-loop
+loop-holds c = (omega arith, refl)
+
+entry-lawful-requires : tie.Need-entry-lawful-requires Inv-loop μ-loop
+entry-lawful-requires c κs = search needs
+
+returns : tie.Need-returns Inv-loop μ-loop
+returns c = let a = c .before .before .before .before .before .before .args in
+    let l = c .before .before .before .loop in
+    let below : l .k < entryCount (now (a .body)) = omega (arith, c .before .before .loop-test .taken, c .before .before .before .before .entry-count .ensures) in
+    sym (all-no _ (lawfulIn (asHead (a .h)) (now (a .body))) (l .k) below
+    (sym (c .before .entry-lawful .ensures) ∙ not-true _ (c .if1 .taken)))
+
+add-k : tie.Need-add-k Inv-loop μ-loop
+add-k c = search needs
+
+loop-less : tie.Need-loop-less Inv-loop μ-loop
+loop-less c = search needs
+
+loop-again : tie.Need-loop-again Inv-loop μ-loop
+loop-again c = let a = c .before .before .before .before .before .before .args in
+    let l = c .before .before .before .loop in (
+      omega arith,
+      all-step (lawfulIn (asHead (a .h)) (now (a .body))) (l .k) (l .inv .1)
+          (sym (c .before .entry-lawful .ensures) ∙ not-false _ (c .if1 .left)),
+    )
+
+returns-2 : tie.Need-returns-2 Inv-loop μ-loop
+returns-2 c = let a = c .before .before .before .before .args in
+    let l = c .before .loop in
+    reached (λ n. all n (lawfulIn (asHead (a .h)) (now (a .body)))) (l .inv .0) (c .loop-test .left) (l .inv .1)
+    ∙ ap (λ (n : ℕ). all n (lawfulIn (asHead (a .h)) (now (a .body)))) (c .before .before .entry-count .ensures)
+
+pub entries-lawful-spec : {M : Type 1} → statement M
+entries-lawful-spec =
+    tie.close
+    (tie.spec
+    Inv-loop
+    μ-loop
+    entry-count-requires
+    loop-holds
+    entry-lawful-requires
+    returns
+    add-k
+    loop-less
+    loop-again
+    returns-2)

@@ -1,0 +1,72 @@
+use borrow.Author.Tests.{eq-eqb, ne-eqb}
+use mathlib.Core.Path.{refl, sym, ap, _∙_}
+use mathlib.Core.Bool.{_||_}
+use Rattle.round.proofs.Words.{and-false, and-true, within-no, within-yes, or-true, or-false}
+use borrow.Author.Needs.{needs}
+use Rattle.round.proofs.candidate.entry_lawful.Statement.{statement}
+use Rattle.round.proofs.candidate.entry_lawful.Tie as tie
+
+mul-wide : tie.Need-mul-wide
+mul-wide c = search needs
+
+add-wide : tie.Need-add-wide
+add-wide c = search needs
+
+shared-slice-read-wide : tie.Need-shared-slice-read-wide
+shared-slice-read-wide c = search needs
+
+wide-requires : tie.Need-wide-requires
+wide-requires c κs = search needs
+
+within-requires : tie.Need-within-requires
+within-requires c κs = search needs
+
+returns : tie.Need-returns
+returns c = and-false _ (within-no 1 _ (c .before .before .wide .ensures .0) (c .before .within .ensures) (c .if1 .taken))
+
+mul-if2 : tie.Need-mul-if2
+mul-if2 c = search needs
+
+add-if2 : tie.Need-add-if2
+add-if2 c = search needs
+
+shared-slice-read-if2 : tie.Need-shared-slice-read-if2
+shared-slice-read-if2 c = search needs
+
+returns-2 : tie.Need-returns-2
+returns-2 c = and-true (within-yes 1 _ (c .before .before .before .before .wide .ensures .0) (c .before .before .before .within .ensures) (c .before .before .if1 .left)) (or-true _ (eq-eqb _ _ (c .if2 .taken)))
+
+mul-result : tie.Need-mul-result
+mul-result c = search needs
+
+add-result : tie.Need-add-result
+add-result c = search needs
+
+shared-slice-read-result : tie.Need-shared-slice-read-result
+shared-slice-read-result c = search needs
+
+shared-slice-read-result-2 : tie.Need-shared-slice-read-result-2
+shared-slice-read-result-2 c = search needs
+
+returns-3 : tie.Need-returns-3
+returns-3 c = and-true (within-yes 1 _ (c .before .before .before .before .before .before .wide .ensures .0) (c .before .before .before .before .before .within .ensures) (c .before .before .before .before .if1 .left)) (or-false (ne-eqb _ _ (c .before .before .if2 .left)))
+
+pub entry-lawful-spec : {M : Type 1} → statement M
+entry-lawful-spec =
+    tie.close
+    (tie.spec
+    mul-wide
+    add-wide
+    shared-slice-read-wide
+    wide-requires
+    within-requires
+    returns
+    mul-if2
+    add-if2
+    shared-slice-read-if2
+    returns-2
+    mul-result
+    add-result
+    shared-slice-read-result
+    shared-slice-read-result-2
+    returns-3)

@@ -1,0 +1,56 @@
+use denote.Ref.{now}
+use mathlib.Core.Path.{sym}
+use Rattle.round.proofs.Words.{sum-step, reached}
+use borrow.Author.Needs.{needs}
+use Prim.Native.Nat.{_≤_, _*_, _-_}
+use mathlib.Core.Path.{_≡_}
+use native.Mathlib.Omega.{arith}
+use Rattle.round.specs.Lists.{sumOf}
+use Rattle.round.specs.Questions.{reservedIn}
+use Rattle.round.proofs.institute.reserved_sum.Statement.{statement}
+use Rattle.round.proofs.institute.reserved_sum.Tie as tie
+
+abbrev Inv-loop : tie.InvT-loop
+Inv-loop body types code sum₀ t₀ sum t = (t ≤ types) × (sum ≡ sumOf t (reservedIn types body code)) × (sum ≤ 65535 * t)
+
+abbrev μ-loop : tie.MeasureT-loop
+μ-loop body types code sum₀ t₀ sum t = types - t
+
+loop-holds : tie.Need-loop-holds Inv-loop μ-loop
+loop-holds c = search needs
+
+reserved-in-requires : tie.Need-reserved-in-requires Inv-loop μ-loop
+reserved-in-requires c κs = search needs
+
+add-sum : tie.Need-add-sum Inv-loop μ-loop
+add-sum c = search needs
+
+add-t : tie.Need-add-t Inv-loop μ-loop
+add-t c = search needs
+
+loop-less : tie.Need-loop-less Inv-loop μ-loop
+loop-less c = search needs
+
+loop-again : tie.Need-loop-again Inv-loop μ-loop
+loop-again c = let a = c .before .before .before .before .args in
+    let l = c .before .before .loop in
+    (omega arith, sum-step (reservedIn (a .types) (now (a .body)) (a .code)) (l .t) (l .inv .1) (c .reserved-in .ensures .0), omega arith)
+
+returns : tie.Need-returns Inv-loop μ-loop
+returns c = let a = c .before .before .before .args in
+    let l = c .before .loop in
+    reached (λ n. sumOf n (reservedIn (a .types) (now (a .body)) (a .code))) (l .inv .0) (c .loop-test .left) (sym (l .inv .1))
+
+pub reserved-sum-spec : {M : Type 1} → statement M
+reserved-sum-spec =
+    tie.close
+    (tie.spec
+    Inv-loop
+    μ-loop
+    loop-holds
+    reserved-in-requires
+    add-sum
+    add-t
+    loop-less
+    loop-again
+    returns)

@@ -1,0 +1,75 @@
+use borrow.Author.Needs.{needs}
+use Prim.Native.Nat.{ℕ, _≤_, _-_}
+use mathlib.Core.Path.{_≡_, sym, _∙_}
+use native.Mathlib.Omega.{arith}
+use lib.ListN.{length}
+use denote.Ref.{now}
+use Rattle.round.specs.Read.{asHead}
+use Rattle.round.proofs.Run.{Run, run-none, run-refused, run-more, run-done}
+use Rattle.round.proofs.records.read_kind.Statement.{statement}
+use Rattle.round.proofs.records.read_kind.Tie as tie
+
+abbrev Inv-loop : tie.InvT-loop
+Inv-loop file from h kind count starts₀ at₀ i₀ starts at i = Run file (asHead h) kind count from starts₀ i at starts
+
+abbrev μ-loop : tie.MeasureT-loop
+μ-loop file from h kind count starts₀ at₀ i₀ starts at i = count - i
+
+loop-holds : tie.Need-loop-holds Inv-loop μ-loop
+loop-holds c = run-none _ _ _ _ _ _ (c .before .before .pre .1 .0)
+
+read-record-requires : tie.Need-read-record-requires Inv-loop μ-loop
+read-record-requires c κs = search needs
+
+enum-known-got : tie.Need-enum-known-got Inv-loop μ-loop
+enum-known-got c = search needs
+
+enum-told : tie.Need-enum-told Inv-loop μ-loop
+enum-told c = search needs
+
+same-length : tie.Need-same-length Inv-loop μ-loop
+same-length c = search needs
+
+returns : tie.Need-returns Inv-loop μ-loop
+returns c = run-refused _ _ _ _ _ _ (c .before .before .before .before .loop .inv) (c .before .before .before .loop-test .taken) (c .before .before .read-record .ensures) (c .enum-told .given .1)
+
+mul-starts : tie.Need-mul-starts Inv-loop μ-loop
+mul-starts c = omega (arith, c .before .before .before .before .loop-test .taken, c .before .before .before .before .before .before .before .before .pre .1 .1, c .before .before .before .before .before .before .before .before .good .1 .1 .1 .1 .1 .0 .1)
+
+slice-write-starts : tie.Need-slice-write-starts Inv-loop μ-loop
+slice-write-starts c = omega (arith, c .before .before .before .before .loop-test .taken, c .before .before .before .before .before .before .before .before .pre .1 .1, c .before .before .before .before .before .loop .inv .same-length)
+
+add-i : tie.Need-add-i Inv-loop μ-loop
+add-i c = search needs
+
+loop-less : tie.Need-loop-less Inv-loop μ-loop
+loop-less c = search needs
+
+loop-again : tie.Need-loop-again Inv-loop μ-loop
+loop-again c = run-more _ _ _ _ _ _ (c .before .before .before .before .before .loop .inv) (c .before .before .before .before .loop-test .taken) (c .before .before .before .read-record .ensures) (c .before .got .given .1) (c .before .before .before .before .before .before .before .before .pre .1 .1)
+
+same-length-2 : tie.Need-same-length-2 Inv-loop μ-loop
+same-length-2 c = search needs
+
+returns-2 : tie.Need-returns-2 Inv-loop μ-loop
+returns-2 c = run-done _ _ _ _ _ _ (c .before .loop .inv) (c .loop-test .left)
+
+pub read-kind-spec : {M : Type 1} → statement M
+read-kind-spec =
+    tie.close
+    (tie.spec
+    Inv-loop
+    μ-loop
+    loop-holds
+    read-record-requires
+    enum-known-got
+    enum-told
+    same-length
+    returns
+    mul-starts
+    slice-write-starts
+    add-i
+    loop-less
+    loop-again
+    same-length-2
+    returns-2)

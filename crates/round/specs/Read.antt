@@ -1,0 +1,44 @@
+-- The reader's values in the words of the definitions, and what its parts are called with.
+use Prim.Native.Nat.{ℕ, suc, _+_, _*_, _^_, _≤_}
+use mathlib.Core.Bool.{Bool, _&&_, _||_}
+use mathlib.Core.List.{List}
+use lib.Dec.{leb, eqb}
+use lib.ListN.{length, getD}
+use mathlib.Core.Path.{_≡_}
+use Rattle.round.specs.declared.head as code
+use Rattle.round.specs.Records.{Head}
+use Rattle.round.specs.Questions.{within, instituteIn, codeIn}
+
+-- the numbers of a head that was read
+abbrev pub asHead : code.Head.Head → Head
+asHead h = record { candidates = h .candidates; institutes = h .institutes; types = h .types; policy = h .policy }
+
+-- the numbers of a head are in range
+pub record InRange (h : Head) : Type 0 where
+  pub candidates-least : 1 ≤ h .candidates
+  pub candidates-most : h .candidates ≤ 512
+  pub institutes-least : 1 ≤ h .institutes
+  pub institutes-most : h .institutes ≤ 32
+  pub types-most : h .types ≤ 8
+  pub policy-most : h .policy ≤ 1
+
+-- a body of the length that an institute's has
+pub record InstituteBody (types : ℕ) (body : List ℕ) : Type 0 where
+  pub types-most : types ≤ 8
+  pub long : length body ≡ 10 + 10 * types
+
+-- a body of a length that a candidate's may have
+pub record CandidateBody (body : List ℕ) : Type 0 where
+  pub least : 2 ≤ length body
+  pub most : length body ≤ 34
+
+-- what question 8 asks, 9 of one entry, and 10 of two
+abbrev pub marksIn : ℕ → List ℕ → Bool
+marksIn types body = leb (getD body 0 0) 4 && leb (suc (getD body 1 0)) (2 ^ types)
+
+abbrev pub lawfulIn : Head → List ℕ → ℕ → Bool
+lawfulIn h body k =
+    within 1 (h .institutes) (instituteIn body k) && (eqb (codeIn body k) 0 || eqb (codeIn body k) (getD body 0 0))
+
+abbrev pub sameIn : List ℕ → ℕ → ℕ → Bool
+sameIn body k l = eqb (instituteIn body k) (instituteIn body l) && eqb (codeIn body k) (codeIn body l)

@@ -1,0 +1,58 @@
+// The head: its numbers, and question 5.
+use crate::word::within;
+use crate::word::word;
+ghost use mathlib.Core.Path.{_≡_};
+ghost use Prim.Native.Nat.{_≤_};
+ghost use lib.ListN.{length};
+ghost use Rattle.round.specs.Records.{headIn};
+ghost use Rattle.round.specs.Questions.{firstNo, headQuestions};
+ghost use Rattle.round.specs.Read.{asHead};
+
+// The numbers of a round: candidates n, institutes m, horizontal types L, policy.
+pub struct Head {
+    pub candidates: usize,
+    pub institutes: usize,
+    pub types: usize,
+    pub policy: usize,
+}
+
+// The numbers in a head's body.
+pub fn head_in(body: &[u8]) -> Head
+    requires { ⌜ 8 ≤ length (now body) ⌝ }
+    ensures { λ r. ⌜ asHead r ≡ headIn (now (body .entry)) ⌝ }
+{
+    let candidates = word(body, 0);
+    let institutes = word(body, 2);
+    let types = word(body, 4);
+    let policy = word(body, 6);
+    Head {
+        candidates,
+        institutes,
+        types,
+        policy,
+    }
+}
+
+// The number of the first question about a head's body whose answer is no, 0 where it is yes.
+pub fn head_no(body: &[u8]) -> usize
+    requires { ⌜ 8 ≤ length (now body) ⌝ }
+    ensures { λ r. ⌜ r ≡ firstNo (headQuestions (now (body .entry))) ⌝ }
+{
+    let candidates = word(body, 0);
+    let institutes = word(body, 2);
+    let types = word(body, 4);
+    let policy = word(body, 6);
+    if !within(1, 512, candidates) {
+        return 5;
+    }
+    if !within(1, 32, institutes) {
+        return 5;
+    }
+    if 8 < types {
+        return 5;
+    }
+    if 1 < policy {
+        return 5;
+    }
+    0
+}

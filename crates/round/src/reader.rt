@@ -1,0 +1,113 @@
+// The reader of a round file: questions 1 to 13.
+use crate::head::Head;
+use crate::head::head_in;
+use crate::records::Part;
+use crate::records::read_kind;
+use crate::records::read_record;
+ghost use mathlib.Core.Path.{_≡_};
+ghost use Prim.Native.Nat.{_≤_};
+ghost use lib.ListN.{length};
+ghost use Rattle.round.specs.Read.{asHead, InRange};
+ghost use Rattle.round.specs.Parts.{RunPart};
+ghost use Rattle.round.specs.Outcome.{handedUp, RestRead, RoundRead};
+
+// What reading a file comes to: the numbers of its round, or the first question answered no and its byte.
+pub enum Reading {
+    Read(Head),
+    Refused { number: usize, offset: usize },
+}
+
+// The refusal that some records hand up. Records that are as due are handed up as 13 at the byte where they end.
+fn handed(got: Part) -> Reading
+    ensures { λ r. ⌜ r ≡ handedUp got ⌝ }
+{
+    match got {
+        Part::Lawful { end } => Reading::Refused {
+            number: 13,
+            offset: end,
+        },
+        Part::Refused { number, offset } => Reading::Refused { number, offset },
+    }
+}
+
+// A table for where the institutes' records start, which nobody asks later: they have one length.
+fn no_places() -> [usize; 32]
+    ensures { λ r. ⌜ length r ≡ 32 ⌝ }
+{
+    [0; 32]
+}
+
+// The numbers that stand in for a head while none is read.
+fn unread() -> Head
+    ensures { λ r. ⌜ InRange (asHead r) ⌝ }
+{
+    Head {
+        candidates: 1,
+        institutes: 1,
+        types: 0,
+        policy: 0,
+    }
+}
+
+// The institutes' records, from behind the head.
+fn read_institutes(file: &[u8], from: usize, h: Head) -> Part
+    requires { ⌜ InRange (asHead h) ⌝ }
+    requires { ⌜ from ≤ length (now file) ⌝ }
+    ensures { λ r. ⌜ RunPart (now (file .entry)) (asHead h) 2 (h .institutes) from r ⌝ }
+{
+    let mut places = no_places();
+    read_kind(file, from, h, 2, h.institutes, &mut places)
+}
+
+// The records after the head, and the end of the file.
+fn read_rest(
+    file: &[u8],
+    from: usize,
+    h: Head,
+    candidates: &mut [usize],
+    merits: &mut [usize],
+) -> Reading
+    requires { ⌜ InRange (asHead h) ⌝ }
+    requires { ⌜ from ≤ length (now file) ⌝ }
+    requires { ⌜ (512 ≤ length (now candidates)) × (32 ≤ length (now merits)) ⌝ }
+    ensures { λ r. ⌜ RestRead (now (file .entry)) (asHead h) from r
+        (now (candidates .entry)) (now (candidates .exit))
+        (now (merits .entry)) (now (merits .exit)) ⌝ }
+{
+    let institutes = read_institutes(file, from, h);
+    let Part::Lawful { end } = institutes else {
+        return handed(institutes);
+    };
+    let rows = read_kind(file, end, h, 3, h.candidates, candidates);
+    let Part::Lawful { end } = rows else {
+        return handed(rows);
+    };
+    let lists = read_kind(file, end, h, 4, h.institutes, merits);
+    let Part::Lawful { end } = lists else {
+        return handed(lists);
+    };
+    if end == file.len() {
+        Reading::Read(h)
+    } else {
+        Reading::Refused {
+            number: 13,
+            offset: end,
+        }
+    }
+}
+
+// A round file: refused with the first question answered no and its byte, or read, with where each candidate's record and
+// each merit list's starts.
+pub fn read_round(file: &[u8], candidates: &mut [usize], merits: &mut [usize]) -> Reading
+    requires { ⌜ (512 ≤ length (now candidates)) × (32 ≤ length (now merits)) ⌝ }
+    ensures { λ r. ⌜ RoundRead (now (file .entry)) r
+        (now (candidates .entry)) (now (candidates .exit))
+        (now (merits .entry)) (now (merits .exit)) ⌝ }
+{
+    let first = read_record(file, 0, unread(), 1);
+    let Part::Lawful { end } = first else {
+        return handed(first);
+    };
+    let h = head_in(&file[4..end]);
+    read_rest(file, end, h, candidates, merits)
+}
