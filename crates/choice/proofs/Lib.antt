@@ -1,0 +1,4 @@
+pub mod TakingRule
+pub mod Sets
+pub mod Filling
+pub mod Completion

@@ -1,0 +1,92 @@
+-- Counting in sets of places, and the few facts on tests that the laws of the choice share.
+use Prim.Native.Nat.{ℕ, zero, suc, _+_, _-_, _≤_, _<_, min}
+use mathlib.Core.Path.{_≡_, refl, sym}
+use mathlib.Core.Bool.{Bool, true, false, not, _&&_, _||_, true≢false, false≢true, and-eq-true-iff}
+use native.Mathlib.Omega.{arith}
+use native.Mathlib.Decide.{ℕ-discrete}
+use lib.Dec.{ltb}
+use borrow.Author.Tests.{ltb-true, ltb-false, lt-ltb}
+use Rattle.round.specs.Lists.{bit, count}
+
+pub true-unless : (b : Bool) → (b ≡ false → ⊥) → b ≡ true
+true-unless true h = refl
+true-unless false h = absurd (h refl)
+
+pub false-unless : (b : Bool) → (b ≡ true → ⊥) → b ≡ false
+false-unless true h = absurd (h refl)
+false-unless false h = refl
+
+pub clash : {A : Type 0} {b : Bool} → b ≡ true → b ≡ false → A
+clash {b} t f = let z : true ≡ false = cc in absurd (true≢false z)
+
+pub and-left : (a b : Bool) → (a && b) ≡ true → a ≡ true
+and-left a b e = and-eq-true-iff a b .0 e .0
+
+pub and-right : (a b : Bool) → (a && b) ≡ true → b ≡ true
+and-right a b e = and-eq-true-iff a b .0 e .1
+
+pub bit-mono : (a b : Bool) → (a ≡ true → b ≡ true) → bit a ≤ bit b
+bit-mono true b h = rw (h refl) (omega arith)
+bit-mono false b h = omega arith
+
+pub count-mono : (n : ℕ) (X Y : ℕ → Bool) → ((p : ℕ) → p < n → X p ≡ true → Y p ≡ true) → count n X ≤ count n Y
+count-mono zero X Y h = omega arith
+count-mono (suc n) X Y h =
+    omega (arith, bit-mono (X n) (Y n) (h n (omega arith)), count-mono n X Y (λ p l. h p (omega arith)))
+
+pub count-cong : (n : ℕ) (X Y : ℕ → Bool) → ((p : ℕ) → p < n → X p ≡ Y p) → count n X ≡ count n Y
+count-cong zero X Y h = refl
+count-cong (suc n) X Y h = rw (h n (omega arith), count-cong n X Y (λ p l. h p (omega arith)))
+
+pub count-strict : (n : ℕ) (X Y : ℕ → Bool) → ((p : ℕ) → p < n → X p ≡ true → Y p ≡ true) → (p : ℕ) → p < n → X p ≡ false → Y p ≡ true → count n X < count n Y
+count-strict zero X Y h p l f t = absurd (omega arith)
+count-strict (suc n) X Y h p l f t =
+    go (ℕ-discrete p n) (λ below. count-strict n X Y (λ r m. h r (omega arith)) p below f t)
+  where
+    go : Dec (p ≡ n) → (p < n → count n X < count n Y) → count (suc n) X < count (suc n) Y
+    go (yes e) ih =
+        let out : X n ≡ false = cc in
+        let into : Y n ≡ true = cc in
+        rw (out, into) (omega (arith, count-mono n X Y (λ r m. h r (omega arith))))
+    go (no e) ih = omega (arith, ih (omega arith), bit-mono (X n) (Y n) (h n (omega arith)))
+
+-- a set within another that has no more is that set
+pub same-by-count : (n : ℕ) (X Y : ℕ → Bool) → ((p : ℕ) → p < n → X p ≡ true → Y p ≡ true) → count n Y ≤ count n X → (p : ℕ) → p < n → X p ≡ Y p
+same-by-count n X Y h c p l = go (X p) (Y p) refl refl
+  where
+    go : (a b : Bool) → X p ≡ a → Y p ≡ b → X p ≡ Y p
+    go true b e f = cc (h p l e)
+    go false true e f = absurd (omega (arith, count-strict n X Y h p l e f))
+    go false false e f = cc
+
+bit-split : (x h : Bool) → (h ≡ true → x ≡ true) → bit x ≡ bit h + bit (x && not h)
+bit-split true true s = refl
+bit-split true false s = refl
+bit-split false true s = absurd (false≢true (s refl))
+bit-split false false s = refl
+
+-- a set is a part of it and the rest
+pub count-split : (n : ℕ) (X H : ℕ → Bool) → ((p : ℕ) → p < n → H p ≡ true → X p ≡ true) → count n X ≡ count n H + count n (λ p. X p && not (H p))
+count-split zero X H s = refl
+count-split (suc n) X H s =
+    omega (arith, bit-split (X n) (H n) (s n (omega arith)), count-split n X H (λ p l. s p (omega arith)))
+
+bit-join : (x h t : Bool) → bit (h || (x && not h && t)) ≡ bit h + bit (x && not h && t)
+bit-join true true t = refl
+bit-join true false t = omega arith
+bit-join false true t = refl
+bit-join false false t = refl
+
+pub count-join : (n : ℕ) (X H t : ℕ → Bool) → count n (λ p. H p || (X p && not (H p) && t p)) ≡ count n H + count n (λ p. X p && not (H p) && t p)
+count-join zero X H t = refl
+count-join (suc n) X H t = omega (arith, bit-join (X n) (H n) (t n), count-join n X H t)
+
+-- of a set, those before whom a and the better ones of it are fewer than q
+pub count-best : (n : ℕ) (R : ℕ → Bool) (a q : ℕ) → count n (λ p. R p && ltb (a + count p R) q) ≡ min (count n R) (q - a)
+count-best zero R a q = omega arith
+count-best (suc n) R a q = go (R n) (ltb (a + count n R) q) refl refl (count-best n R a q)
+  where
+    go : (b t : Bool) → R n ≡ b → ltb (a + count n R) q ≡ t → count n (λ p. R p && ltb (a + count p R) q) ≡ min (count n R) (q - a) → count (suc n) (λ p. R p && ltb (a + count p R) q) ≡ min (count (suc n) R) (q - a)
+    go false t e f ih = rw e (omega arith)
+    go true true e f ih = rw (e, f) (omega (arith, ltb-true))
+    go true false e f ih = rw (e, f) (omega (arith, ltb-false))
