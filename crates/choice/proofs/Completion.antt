@@ -1,32 +1,35 @@
 -- The completion of an institute's choice: a place taken under one entry keeps its other entry in play. It has the laws
 -- that the choice itself lacks: more offers keep out what was kept out, and take no fewer.
 use Prim.Native.Nat.{ℕ, zero, suc, _+_, _-_, _≤_, _<_, min}
-use mathlib.Core.Path.{_≡_, refl, sym, _∙_, ap}
-use mathlib.Core.Bool.{Bool, true, false, cond, not, _&&_, _||_, false≢true, and-true}
+use mathlib.Core.Path.{_≡_, refl, sym, _∙_}
+use mathlib.Core.Bool.{Bool, true, false, cond, not, _&&_, _||_, and-true}
 use mathlib.Core.List.{List, [], _∷_}
 use native.Mathlib.Omega.{arith}
 use lib.Dec.{eqb, ltb}
-use lib.ListN.{length, getD, replicate}
-use borrow.Author.Tests.{ltb-true, lt-ltb, eqb-true, eqb-false, eq-eqb, ne-eqb}
+use lib.ListN.{length, getD}
+use borrow.Author.Tests.{ltb-true, lt-ltb, eqb-true, ne-eqb}
 use Rattle.round.specs.declared.entry.Category.{Category}
 use Rattle.round.specs.declared.entry.Category.the-variants.{Open, SC, ST, OBC, EWS}
-use Rattle.round.specs.Category.{codeOf, categoryOf}
 use Rattle.round.specs.Round.{StepRule}
-use Rattle.round.specs.Lists.{tabulate, count, sum}
+use Rattle.round.specs.Lists.{tabulate, bit, count, sum, sumOf}
 use Rattle.choice.specs.Step.{takenForUse, taken}
 use Rattle.choice.specs.Choice.{Progress, nothingDone}
 use Rattle.choice.proofs.TakingRule.{TakingRule}
-use Rattle.choice.proofs.Sets.{true-unless, false-unless, clash, and-left, and-right, count-mono, count-cong, same-by-count, count-split}
-use Rattle.choice.proofs.Filling.{taken-within, taken-stays, taken-count, taken-irrelevant}
-
--- the two categories are one
-abbrev pub same : Category → Category → Bool
-same c d = eqb (codeOf c) (codeOf d)
+use Rattle.choice.proofs.Sets.{true-unless, clash, and-left, and-right, left-if-out, out-if-left, count-mono, count-cong, same-by-count, count-split}
+use Rattle.choice.proofs.Categories.{same, same-category}
+use Rattle.choice.proofs.Filling.{taken-within, taken-stays, taken-count}
 
 -- each step's reserved positions are positions of its own
 abbrev pub Lawful : List StepRule → Type 0
 Lawful [] = Unit {0}
 Lawful (rule ∷ rules) = (sum (rule .reserved) ≤ rule .own) × Lawful rules
+
+-- what is done when step k too has taken the places of T, of its positions
+abbrev pub progress : ℕ → ℕ → ℕ → ℕ → (ℕ → Bool) → Progress → Progress
+progress n k positions receiver T done = record {
+  given = tabulate n (λ p. cond (T p) k (getD (done .given) p 0));
+  handed = λ j. done .handed j + cond (eqb j receiver) (positions - count n T) 0;
+}
 
 -- what the steps done so far leave: the offers not taken, and the steps and vacancies as the choice keeps them
 pub record Completing : Type 0 where
@@ -48,10 +51,7 @@ module _ (marks : List ℕ) where
   unfoldable pub complete : ℕ → StepRule → Completing → Completing
   complete k rule now = record {
     left = λ p c. now .left p c && not (same c (rule .category) && takenIn k rule now p);
-    done = record {
-      given = tabulate (length marks) (λ p. cond (takenIn k rule now p) k (getD (now .done .given) p 0));
-      handed = λ j. now .done .handed j + cond (eqb j (rule .receiver)) (vacantIn k rule now) 0;
-    };
+    done = progress (length marks) k (positionsIn k rule now) (rule .receiver) (takenIn k rule now) (now .done);
   }
 
   unfoldable pub completeAll : ℕ → List StepRule → Completing → Completing
@@ -70,6 +70,12 @@ unfoldable pub offersIn : ℕ → (ℕ → Category → Bool) → ℕ
 offersIn n Y =
     count n (λ p. Y p Open) + count n (λ p. Y p SC) + count n (λ p. Y p ST) + count n (λ p. Y p OBC) + count n (λ p. Y p EWS)
 
+-- the same, place by place
+pub offers-by-place : (n : ℕ) (Y : ℕ → Category → Bool) → offersIn n Y ≡ sumOf n (λ p. bit (Y p Open) + bit (Y p SC) + bit (Y p ST) + bit (Y p OBC) + bit (Y p EWS))
+unfolding offersIn
+offers-by-place zero Y = refl
+offers-by-place (suc n) Y = omega (arith, offers-by-place n Y)
+
 unfoldable pub totalTaken : List ℕ → List StepRule → (ℕ → Category → Bool) → ℕ
 totalTaken marks rules offered = offersIn (length marks) (completion marks rules offered)
 
@@ -83,16 +89,6 @@ unfolding completeAll complete
 left-before marks [] k now p c e = e
 left-before marks (rule ∷ rules) k now p c e = and-left (now .left p c) _ (left-before marks rules (suc k) (complete marks k rule now) p c e)
 
-same-category : (c d : Category) → same c d ≡ true → c ≡ d
-same-category c d e = sym (back c) ∙ ap categoryOf (eqb-true (codeOf c) (codeOf d) e) ∙ back d
-  where
-    back : (c : Category) → categoryOf (codeOf c) ≡ c
-    back Open = refl
-    back SC = refl
-    back ST = refl
-    back OBC = refl
-    back EWS = refl
-
 stays-left : (l s t l' t' : Bool) → (l ≡ true → l' ≡ true) → (l ≡ true → s ≡ true → t ≡ false → t' ≡ false) → (l && not (s && t)) ≡ true → (l' && not (s && t')) ≡ true
 stays-left true true true l' t' f g e = clash e refl
 stays-left true true false l' t' f g e = rw (f refl, g refl refl refl)
@@ -102,17 +98,6 @@ stays-left false s t l' t' f g e = clash e refl
 cond-mono : (b : Bool) (v v' : ℕ) → v' ≤ v → cond b v' 0 ≤ cond b v 0
 cond-mono true v v' h = h
 cond-mono false v v' h = omega arith
-
-left-if-out : (y l : Bool) → y ≡ true → (y && not l) ≡ false → l ≡ true
-left-if-out y true e f = refl
-left-if-out true false e f = clash refl f
-left-if-out false false e f = e
-
-out-if-left : (y l : Bool) → l ≡ true → (y && not l) ≡ false
-out-if-left true true e = refl
-out-if-left false true e = refl
-out-if-left true false e = clash e refl
-out-if-left false false e = refl
 
 -- a part of the set leaves it, or nothing does
 count-leaving : (n : ℕ) (X T : ℕ → Bool) (b : Bool) → (b ≡ true → (p : ℕ) → p < n → T p ≡ true → X p ≡ true) → count n (λ p. X p && not (b && T p)) + cond b (count n T) 0 ≡ count n X
@@ -238,12 +223,12 @@ module _ (marks : List ℕ) (taking : (reserved : List ℕ) → TakingRule (leng
         )
 
     step-handed : (j : ℕ) → complete marks k rule now' .done .handed j ≤ complete marks k rule now .done .handed j
-    unfolding complete
+    unfolding complete vacantIn
     step-handed j = omega (arith, more j, cond-mono (eqb j (rule .receiver)) _ _ step-vacant)
 
     -- what step k takes more is made up for by what it hands on more
     all-take-one : (rules : List StepRule) (last last' : ℕ) → offersIn (length marks) (complete marks k rule now .left) + last' + sumFrom (suc k) (length rules) (complete marks k rule now' .done .handed) ≤ offersIn (length marks) (complete marks k rule now' .left) + last + sumFrom (suc k) (length rules) (complete marks k rule now .done .handed) → offersIn (length marks) (now .left) + last' + sumFrom k (suc (length rules)) (now' .done .handed) ≤ offersIn (length marks) (now' .left) + last + sumFrom k (suc (length rules)) (now .done .handed)
-    unfolding complete
+    unfolding complete vacantIn
     all-take-one rules last last' ih =
         let r = rule .receiver in
         let v = vacantIn marks k rule now in

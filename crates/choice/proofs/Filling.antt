@@ -2,7 +2,7 @@
 -- fills. Dropping considered places that a rule leaves out changes nothing.
 use Prim.Native.Nat.{ℕ, _+_, _≤_, _<_, min}
 use mathlib.Core.Path.{_≡_, refl, sym, _∙_}
-use mathlib.Core.Bool.{Bool, true, false, not, _&&_, _||_, false≢true}
+use mathlib.Core.Bool.{Bool, true, false, not, _&&_, _||_}
 use mathlib.Core.List.{List}
 use native.Mathlib.Omega.{arith}
 use lib.Dec.{ltb}
@@ -11,7 +11,7 @@ use borrow.Author.Tests.{ltb-true, ltb-false, lt-ltb, le-ltb}
 use Rattle.round.specs.Lists.{count, sum}
 use Rattle.choice.specs.Step.{takenForUse, remaining, takenByMerit, taken}
 use Rattle.choice.proofs.TakingRule.{TakingRule}
-use Rattle.choice.proofs.Sets.{true-unless, false-unless, clash, and-left, and-right, count-mono, count-cong, same-by-count, count-split, count-join, count-best}
+use Rattle.choice.proofs.Sets.{true-unless, clash, and-left, and-right, count-mono, same-by-count, count-split, count-join, count-best}
 
 -- H's places, and of the rest those whom H's places and the better ones of the rest leave one of q positions
 unfoldable pub filled : ℕ → ((ℕ → Bool) → ℕ → Bool) → ℕ → (ℕ → Bool) → ℕ → Bool

@@ -1,4 +1,10 @@
 pub mod TakingRule
 pub mod Sets
+pub mod Categories
+pub mod Tabulate
 pub mod Filling
 pub mod Completion
+pub mod Below
+pub mod Chosen
+pub mod Agreement
+pub mod HeldAndNew

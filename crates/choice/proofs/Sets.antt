@@ -1,11 +1,11 @@
 -- Counting in sets of places, and the few facts on tests that the laws of the choice share.
 use Prim.Native.Nat.{ℕ, zero, suc, _+_, _-_, _≤_, _<_, min}
-use mathlib.Core.Path.{_≡_, refl, sym}
+use mathlib.Core.Path.{_≡_, refl}
 use mathlib.Core.Bool.{Bool, true, false, not, _&&_, _||_, true≢false, false≢true, and-eq-true-iff}
 use native.Mathlib.Omega.{arith}
 use native.Mathlib.Decide.{ℕ-discrete}
 use lib.Dec.{ltb}
-use borrow.Author.Tests.{ltb-true, ltb-false, lt-ltb}
+use borrow.Author.Tests.{ltb-true, ltb-false}
 use Rattle.round.specs.Lists.{bit, count}
 
 pub true-unless : (b : Bool) → (b ≡ false → ⊥) → b ≡ true
@@ -24,6 +24,17 @@ and-left a b e = and-eq-true-iff a b .0 e .0
 
 pub and-right : (a b : Bool) → (a && b) ≡ true → b ≡ true
 and-right a b e = and-eq-true-iff a b .0 e .1
+
+pub left-if-out : (y l : Bool) → y ≡ true → (y && not l) ≡ false → l ≡ true
+left-if-out y true e f = refl
+left-if-out true false e f = clash refl f
+left-if-out false false e f = e
+
+pub out-if-left : (y l : Bool) → l ≡ true → (y && not l) ≡ false
+out-if-left true true e = refl
+out-if-left false true e = refl
+out-if-left true false e = clash e refl
+out-if-left false false e = refl
 
 pub bit-mono : (a b : Bool) → (a ≡ true → b ≡ true) → bit a ≤ bit b
 bit-mono true b h = rw (h refl) (omega arith)
