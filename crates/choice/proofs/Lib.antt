@@ -1,4 +1,9 @@
 pub mod TakingRule
+pub mod Counting
+pub mod Use
+pub mod Tight
+pub mod Hall
+pub mod Taking
 pub mod Sets
 pub mod Categories
 pub mod Tabulate
