@@ -1,2 +1,3 @@
 pub mod Market
+pub mod Rounds
 pub mod Starred

@@ -1,0 +1,4 @@
+-- Every sound round is a market, its process is the market's, and its list is stable and truthful.
+pub mod Numbered
+pub mod First
+pub mod Places
