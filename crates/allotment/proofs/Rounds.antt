@@ -3,3 +3,4 @@ pub mod Numbered
 pub mod First
 pub mod Places
 pub mod Completed
+pub mod Institutes
