@@ -4,3 +4,6 @@ pub mod First
 pub mod Places
 pub mod Completed
 pub mod Institutes
+pub mod Agreed
+pub mod Running
+pub mod Seats

@@ -110,6 +110,17 @@ module _ (r : Round) (j : ℕ) where
           | no l ↦ completed-off Y' i c l
         ]
 
+    pub completed-inside : (Y : OfferSet) (i : ℕ) (c : Category) → completed Y i c ≡ true → i < n
+    completed-inside Y i c t =
+        let l : placeOn r j i < meritLength r j = completed-placed Y i c t in
+        omega (arith, candidate-below r j sound (placeOn r j i) l, candidate-at r j i l)
+
+    -- at a place its candidate's offers count
+    pub completed-here : (Y : OfferSet) (p : ℕ) (c : Category) → p < meritLength r j → completed Y (candidateOn r j p) c ≡ completedAt Y p c
+    completed-here Y p c l =
+        let q : placeOn r j (candidateOn r j p) ≡ p = place-of r j sound p l in
+        completed-on Y (candidateOn r j p) c (omega arith) ∙ ap (λ k. completedAt Y k c) q
+
     -- what is taken of candidates is what is taken of places
     pub completed-total : (Y : OfferSet) → sum n (λ i. five (completed Y i)) ≡ totalTaken marksOn (instituteAt r j .steps) (atPlaces Y)
     unfolding totalTaken
@@ -117,7 +128,8 @@ module _ (r : Round) (j : ℕ) where
         sum-through (meritLength r j) n (candidateOn r j) (placeOn r j) (candidate-below r j sound) (place-of r j sound)
         (λ i. five (completed Y i))
         (λ i l. all i)
-        ∙ sum-same (meritLength r j) (λ p. five (completed Y (candidateOn r j p))) (λ p. five (completedAt Y p)) same
+        ∙ sum-same (meritLength r j) (λ p. five (completed Y (candidateOn r j p))) (λ p. five (completedAt Y p))
+        (λ p l. five-same (completed Y (candidateOn r j p)) (completedAt Y p) (λ c. completed-here Y p c l))
         ∙ five-is (meritLength r j) (completedAt Y)
         ∙ ap (λ k. offersIn k (completedAt Y)) (sym (length-map (instituteAt r j .merit) _))
       where
@@ -127,12 +139,6 @@ module _ (r : Round) (j : ℕ) where
               | yes l ↦ inl (l, candidate-at r j i l)
               | no l ↦ inr (five-none (completed Y i) (λ c. completed-off Y i c l))
             ]
-
-        same : (p : ℕ) → p < meritLength r j → five (completed Y (candidateOn r j p)) ≡ five (completedAt Y p)
-        same p l =
-            let q : placeOn r j (candidateOn r j p) ≡ p = place-of r j sound p l in
-            five-same (completed Y (candidateOn r j p)) (completedAt Y p)
-            (λ c. completed-on Y (candidateOn r j p) c (omega arith) ∙ ap (λ k. completedAt Y k c) q)
 
     pub completed-grows : (Y Y' : OfferSet) → ((i : ℕ) (c : Category) → Y i c ≡ true → Y' i c ≡ true)
         → sum n (λ i. five (completed Y i)) ≤ sum n (λ i. five (completed Y' i))

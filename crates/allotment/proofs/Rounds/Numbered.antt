@@ -50,6 +50,12 @@ number-category j c =
     let e : numberOf j c % 5 ≡ codeOf c = omega (arith, code-small c) in
     ap categoryOf e ∙ category-code c
 
+pub number-same : (j k : ℕ) (c d : Category) → numberOf j c ≡ numberOf k d → (j ≡ k) × (c ≡ d)
+number-same j k c d e = (
+  sym (number-institute j c) ∙ ap (λ x. x / 5) e ∙ number-institute k d,
+  sym (number-category j c) ∙ ap (λ x. categoryOf (x % 5)) e ∙ number-category k d,
+)
+
 pub number-back : (e : ℕ) → numberOf (e / 5) (categoryOf (e % 5)) ≡ e
 number-back e = omega (arith, code-category (e % 5) (omega arith))
 
