@@ -7,3 +7,4 @@ pub mod Institutes
 pub mod Agreed
 pub mod Running
 pub mod Seats
+pub mod Process

@@ -1,14 +1,15 @@
 -- The seats in a state that turns lead to: the institute and the step that hold a candidate, and none for whom nothing holds.
 use mathlib.Core.Path.{_≡_, refl, sym, _∙_, ap}
 use mathlib.Core.Bool.{Bool, true, false, cond, not}
-use mathlib.Core.Logic.{_≢_}
+use mathlib.Core.Logic.{_≢_, _⊎_, inl, inr}
 use mathlib.Core.List.{List, []}
-use Prim.Native.Nat.{ℕ, suc, _≤_, _<_}
+use Prim.Native.Nat.{ℕ, suc, _/_, _%_, _≤_, _<_}
 use native.Mathlib.Omega.{arith}
 use lib.Dec.{eqb, ltb}
 use lib.ListN.{length, getD}
 use borrow.Author.Tests.{lt-ltb, le-ltb, eq-eqb, ne-eqb, eqb-false, not-true}
 use Rattle.round.specs.declared.entry.Category.{Category}
+use Rattle.round.specs.Category.{categoryOf}
 use Rattle.round.specs.Lists.{first}
 use Rattle.round.specs.Round.{Round}
 use Rattle.round.specs.Sound.{Sound}
@@ -17,10 +18,12 @@ use Rattle.allotment.specs.Rows.{categoryAt}
 use Rattle.allotment.specs.Offers.{OfferSet, placeOn, stepsOn, stepFor, takenFrom}
 use Rattle.allotment.specs.Process.{Seat, noSeat, candidateCount, instituteCount, madeTo, chosen, seatBy, seatsAfter}
 use Rattle.allotment.proofs.Market.Tests.{clash}
-use Rattle.allotment.proofs.Rounds.Numbered.{numberOf, number-same}
+use Rattle.allotment.proofs.Market.Laws.{Held, Unheld, held-or-not}
+use Rattle.allotment.proofs.Rounds.Numbered.{numberOf, number-same, number-back}
 use Rattle.allotment.proofs.Rounds.First.{first-only, first-none}
 use Rattle.allotment.proofs.Rounds.Agreed.{step-taken, taken-step}
-use Rattle.allotment.proofs.Rounds.Running.{held, Running, one-entry-held, taken-held}
+use Rattle.allotment.proofs.Rounds.Institutes.{choiceOf, choice-bounded, round-market}
+use Rattle.allotment.proofs.Rounds.Running.{made, held, Running, one-entry-held, taken-held}
 
 module _ (r : Round) (tried : List ℕ) where
   -- the step of candidate i at institute j
@@ -75,3 +78,37 @@ module _ {types : ℕ} {r : Round} (sound : Sound types r) {tried : List ℕ} (r
       out : (q : ℕ) → q < instituteCount r → (b : Bool) → eqb (stepIn r tried q i) 0 ≡ b → not (eqb (stepIn r tried q i) 0) ≡ false
       out q hq true e = rw e
       out q hq false e = clash (step-held i q hi hq (eqb-false (stepIn r tried q i) 0 e)) (none _)
+
+-- candidate i is held, and the seat says where
+pub record Seated (r : Round) (tried : List ℕ) (i : ℕ) : Type 0 where
+  pub institute : ℕ
+  pub category : Category
+  pub inside : institute < instituteCount r
+  pub holds : held r tried i (numberOf institute category) ≡ true
+  pub number : stepIn r tried institute i ≢ 0
+  pub under : categoryAt r institute (stepIn r tried institute i) ≡ category
+  pub seat : getD (seatsAfter r tried) i noSeat ≡ record { institute = suc institute; step = stepIn r tried institute i }
+
+-- candidate i is held nowhere
+pub record Unseated (r : Round) (tried : List ℕ) (i : ℕ) : Type 0 where
+  pub none : Unheld (choiceOf r) (made r tried) i
+  pub seat : getD (seatsAfter r tried) i noSeat ≡ noSeat
+
+pub seat-of : {types : ℕ} {r : Round} → Sound types r → {tried : List ℕ} → Running r tried → (i : ℕ) → i < candidateCount r
+    → Seated r tried i ⊎ Unseated r tried i
+seat-of {r = r} sound {tried} run i hi = go (held-or-not (round-market r sound) (made r tried) i)
+  where
+    go : Held (choiceOf r) (made r tried) i ⊎ Unheld (choiceOf r) (made r tried) i → Seated r tried i ⊎ Unseated r tried i
+    go (inl (e, q)) =
+        let hj : e / 5 < instituteCount r = omega (arith, choice-bounded r (made r tried) i e q) in
+        let t : held r tried i (numberOf (e / 5) (categoryOf (e % 5))) ≡ true = ap (λ x. held r tried i x) (number-back e) ∙ q in
+        inl record {
+          institute = e / 5;
+          category = categoryOf (e % 5);
+          inside = hj;
+          holds = t;
+          number = held-step sound run i (e / 5) (categoryOf (e % 5)) hi hj t .0;
+          under = held-step sound run i (e / 5) (categoryOf (e % 5)) hi hj t .1;
+          seat = seat-held sound run i (e / 5) (categoryOf (e % 5)) hi hj t;
+        }
+    go (inr none) = inr record { none = none; seat = seat-unheld sound run i hi none }
