@@ -8,3 +8,5 @@ pub mod Agreed
 pub mod Running
 pub mod Seats
 pub mod Process
+pub mod Standing
+pub mod Given

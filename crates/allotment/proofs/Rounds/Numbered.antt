@@ -111,6 +111,10 @@ rowsOf r i = record {
 }
 
 module _ (r : Round) where
+  pub row-length : (i : ℕ) → rowsOf r i .len ≡ length (rowAt r i)
+  unfolding rowsOf
+  row-length i = refl
+
   pub rows-rank : (i j : ℕ) (c : Category) → rowsOf r i .rank (numberOf j c) ≡ rankIn (rowAt r i) (entryOf j c)
   unfolding rowsOf
   rows-rank i j c = ap (λ (e : Entry). rankIn (rowAt r i) e) (number-entry j c)

@@ -38,10 +38,6 @@ pub sum-of : (l : List ℕ) → Lists.sum l ≡ sum (length l) (stateOf l)
 sum-of l = sum-listed l ∙ sym (sum-is (length l) (stateOf l))
 
 module _ (r : Round) where
-  pub row-length : (i : ℕ) → rowsOf r i .len ≡ length (rowAt r i)
-  unfolding rowsOf
-  row-length i = refl
-
   pub entries : entryTotal r ≡ sum (candidateCount r) (λ i. rowsOf r i .len)
   unfolding rowsOf
   entries =
