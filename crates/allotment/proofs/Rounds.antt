@@ -10,3 +10,4 @@ pub mod Seats
 pub mod Process
 pub mod Standing
 pub mod Given
+pub mod StableRound

@@ -68,6 +68,12 @@ module _ (r : Round) (j : ℕ) where
     same-category (categoryAt r j (stepFor r j Y i)) c (and-snd (not (eqb (stepFor r j Y i) 0)) _ t),
   )
 
+  -- the same steps take the same offers
+  pub taken-by-steps : (Y Y' : OfferSet) → stepsOn r j Y ≡ stepsOn r j Y' → (i : ℕ) (c : Category) → takenFrom r j Y i c ≡ takenFrom r j Y' i c
+  unfolding takenFrom stepFor
+  taken-by-steps Y Y' e i c =
+      ap (λ (l : List ℕ). not (eqb (getD l (placeOn r j i) 0) 0) && sameCategory (categoryAt r j (getD l (placeOn r j i) 0)) c) e
+
   module _ {n types : ℕ} (sound : SoundInstitute n types (instituteAt r j)) where
     merit-marks : length (marksOn r j) ≡ meritLength r j
     merit-marks = length-map (instituteAt r j .merit) _

@@ -57,3 +57,6 @@ module _ {types : ℕ} {r : Round} (sound : Sound types r) {tried : List ℕ} (r
       → takenFrom r j (madeTo r tried j) i c ≡ held r tried i (numberOf j c)
   taken-held i j c hi hj =
       taken-completed r j (sound .institute j hj) (madeTo r tried j) (one-at j hj) i c ∙ sym (held-at r tried i j c hi hj)
+
+  pub held-made : (i j : ℕ) (c : Category) → held r tried i (numberOf j c) ≡ true → madeTo r tried j i c ≡ true
+  held-made i j c t = ap (λ (Y : OfferSet). Y i c) (made-to r tried j) ∙ round-market r sound .within (made r tried) i (numberOf j c) t
