@@ -1,0 +1,151 @@
+-- The completion of an institute's choice on offers of candidates: who is absent from the merit list is taken under nothing.
+use mathlib.Core.Path.{_≡_, refl, sym, _∙_, ap, subst}
+use mathlib.Core.Bool.{Bool, true, false, _&&_}
+use mathlib.Core.Logic.{_⊎_, inl, inr}
+use mathlib.Core.List.{List, [], _∷_, map}
+use Prim.Native.Nat.{ℕ, zero, suc, _+_, _-_, _≤_, _<_}
+use native.Mathlib.Omega.{arith}
+use native.Mathlib.Decide.{decLt}
+use lib.Dec.{ltb}
+use lib.ListN.{length, getD, length-map}
+use borrow.Author.Tests.{ltb-true, lt-ltb, le-ltb}
+use Rattle.round.specs.declared.entry.Category.{Category}
+use Rattle.round.specs.declared.entry.Category.the-variants.{Open, SC, ST, OBC, EWS}
+use Rattle.round.specs.Lists as Lists
+use Rattle.round.specs.Round.{StepRule, Round}
+use Rattle.round.specs.Places.{candidateAt, instituteAt, noStep}
+use Rattle.round.specs.Sound.{SoundInstitute}
+use Rattle.round.proofs.Words.{and-fst, and-snd}
+use Rattle.choice.proofs.Taking.{takingForUse}
+use Rattle.choice.proofs.Completion.{Lawful, completion, completion-within, completion-stays, completion-grows, offersIn, offers-by-place, totalTaken}
+use Rattle.allotment.specs.Offers.{OfferSet, candidateOn, placeOn}
+use Rattle.allotment.proofs.Market.Sums.{sum, bit, sum-same}
+use Rattle.allotment.proofs.Market.DoubleSums.{sum-through}
+use Rattle.allotment.proofs.Rounds.Places.{meritLength, place-within, candidate-at, candidate-below, place-of}
+
+-- how many of a candidate's five possible offers to an institute are in the set
+unfoldable pub five : (Category → Bool) → ℕ
+five Z = bit (Z Open) + bit (Z SC) + bit (Z ST) + bit (Z OBC) + bit (Z EWS)
+
+pub five-same : (Z X : Category → Bool) → ((c : Category) → Z c ≡ X c) → five Z ≡ five X
+unfolding five
+five-same Z X h = rw (h Open, h SC, h ST, h OBC, h EWS)
+
+pub five-none : (Z : Category → Bool) → ((c : Category) → Z c ≡ false) → five Z ≡ 0
+unfolding five
+five-none Z h = rw (h Open, h SC, h ST, h OBC, h EWS)
+
+-- the sums and bits of the market are those of the definitions
+pub sum-is : (k : ℕ) (f : ℕ → ℕ) → sum k f ≡ Lists.sumOf k f
+unfolding sum
+sum-is zero f = refl
+sum-is (suc k) f = omega (arith, sum-is k f)
+
+pub bit-is : (b : Bool) → bit b ≡ Lists.bit b
+bit-is true = refl
+bit-is false = refl
+
+five-is : (n : ℕ) (Y : ℕ → Category → Bool) → sum n (λ p. five (Y p)) ≡ offersIn n Y
+unfolding five
+five-is n Y =
+    sum-same n (λ p. five (Y p))
+    (λ p. Lists.bit (Y p Open) + Lists.bit (Y p SC) + Lists.bit (Y p ST) + Lists.bit (Y p OBC) + Lists.bit (Y p EWS))
+    (λ p l. omega (arith, bit-is (Y p Open), bit-is (Y p SC), bit-is (Y p ST), bit-is (Y p OBC), bit-is (Y p EWS)))
+    ∙ sum-is n _
+    ∙ sym (offers-by-place n Y)
+
+lawful-steps : (rules : List StepRule)
+    → ((s : ℕ) → s < length rules → Lists.sum (getD rules s noStep .reserved) ≤ getD rules s noStep .own) → Lawful rules
+lawful-steps [] h = tt
+lawful-steps (rule ∷ rules) h = (h 0 (omega arith), lawful-steps rules (λ s l. h (suc s) (omega arith)))
+
+module _ (r : Round) (j : ℕ) where
+  abbrev pub marksOn : List ℕ
+  marksOn = map (λ number. candidateAt r (number - 1) .marks) (instituteAt r j .merit)
+
+  -- the offers of candidates as offers of places
+  abbrev pub atPlaces : OfferSet → ℕ → Category → Bool
+  atPlaces Y p c = Y (candidateOn r j p) c
+
+  abbrev pub completedAt : OfferSet → ℕ → Category → Bool
+  completedAt Y = completion marksOn (instituteAt r j .steps) (atPlaces Y)
+
+  unfoldable pub completed : OfferSet → OfferSet
+  completed Y i c = ltb (placeOn r j i) (meritLength r j) && completedAt Y (placeOn r j i) c
+
+  pub completed-placed : (Y : OfferSet) (i : ℕ) (c : Category) → completed Y i c ≡ true → placeOn r j i < meritLength r j
+  unfolding completed
+  completed-placed Y i c t = ltb-true (placeOn r j i) (meritLength r j) (and-fst (ltb (placeOn r j i) (meritLength r j)) _ t)
+
+  pub completed-on : (Y : OfferSet) (i : ℕ) (c : Category) → placeOn r j i < meritLength r j → completed Y i c ≡ completedAt Y (placeOn r j i) c
+  unfolding completed
+  completed-on Y i c l = rw (lt-ltb (placeOn r j i) (meritLength r j) l)
+
+  pub completed-off : (Y : OfferSet) (i : ℕ) (c : Category) → ¬ (placeOn r j i < meritLength r j) → completed Y i c ≡ false
+  unfolding completed
+  completed-off Y i c l = rw (le-ltb (placeOn r j i) (meritLength r j) (omega arith))
+
+  pub completed-within : (Y : OfferSet) (i : ℕ) (c : Category) → completed Y i c ≡ true → Y i c ≡ true
+  completed-within Y i c t =
+      let l : placeOn r j i < meritLength r j = completed-placed Y i c t in
+      let t' : completedAt Y (placeOn r j i) c ≡ true = sym (completed-on Y i c l) ∙ t in
+      subst (λ i. Y i c ≡ true) (candidate-at r j i l) (completion-within marksOn (instituteAt r j .steps) (atPlaces Y) (placeOn r j i) c t')
+
+  module _ {n types : ℕ} (sound : SoundInstitute n types (instituteAt r j)) where
+    pub lawful : Lawful (instituteAt r j .steps)
+    lawful = lawful-steps (instituteAt r j .steps) (sound .reserved-within)
+
+    pub completed-stays : (Y Y' : OfferSet) → ((i : ℕ) (c : Category) → Y i c ≡ true → Y' i c ≡ true)
+        → (i : ℕ) (c : Category) → Y i c ≡ true → completed Y i c ≡ false → completed Y' i c ≡ false
+    completed-stays Y Y' s i c y out =
+        elim (decLt (placeOn r j i) (meritLength r j)) [
+          | yes l ↦
+              completed-on Y' i c l
+              ∙ completion-stays marksOn (λ reserved. takingForUse reserved marksOn) (instituteAt r j .steps) lawful (atPlaces Y) (atPlaces Y')
+              (λ p d. s (candidateOn r j p) d)
+              (placeOn r j i)
+              c
+              (ap (λ i. Y i c) (candidate-at r j i l) ∙ y)
+              (sym (completed-on Y i c l) ∙ out)
+          | no l ↦ completed-off Y' i c l
+        ]
+
+    pub completed-inside : (Y : OfferSet) (i : ℕ) (c : Category) → completed Y i c ≡ true → i < n
+    completed-inside Y i c t =
+        let l : placeOn r j i < meritLength r j = completed-placed Y i c t in
+        omega (arith, candidate-below r j sound (placeOn r j i) l, candidate-at r j i l)
+
+    -- at a place its candidate's offers count
+    pub completed-here : (Y : OfferSet) (p : ℕ) (c : Category) → p < meritLength r j → completed Y (candidateOn r j p) c ≡ completedAt Y p c
+    completed-here Y p c l =
+        let q : placeOn r j (candidateOn r j p) ≡ p = place-of r j sound p l in
+        completed-on Y (candidateOn r j p) c (omega arith) ∙ ap (λ k. completedAt Y k c) q
+
+    -- what is taken of candidates is what is taken of places
+    pub completed-total : (Y : OfferSet) → sum n (λ i. five (completed Y i)) ≡ totalTaken marksOn (instituteAt r j .steps) (atPlaces Y)
+    unfolding totalTaken
+    completed-total Y =
+        sum-through (meritLength r j) n (candidateOn r j) (placeOn r j) (candidate-below r j sound) (place-of r j sound)
+        (λ i. five (completed Y i))
+        (λ i l. all i)
+        ∙ sum-same (meritLength r j) (λ p. five (completed Y (candidateOn r j p))) (λ p. five (completedAt Y p))
+        (λ p l. five-same (completed Y (candidateOn r j p)) (completedAt Y p) (λ c. completed-here Y p c l))
+        ∙ five-is (meritLength r j) (completedAt Y)
+        ∙ ap (λ k. offersIn k (completedAt Y)) (sym (length-map (instituteAt r j .merit) _))
+      where
+        all : (i : ℕ) → ((placeOn r j i < meritLength r j) × (candidateOn r j (placeOn r j i) ≡ i)) ⊎ (five (completed Y i) ≡ 0)
+        all i =
+            elim (decLt (placeOn r j i) (meritLength r j)) [
+              | yes l ↦ inl (l, candidate-at r j i l)
+              | no l ↦ inr (five-none (completed Y i) (λ c. completed-off Y i c l))
+            ]
+
+    pub completed-grows : (Y Y' : OfferSet) → ((i : ℕ) (c : Category) → Y i c ≡ true → Y' i c ≡ true)
+        → sum n (λ i. five (completed Y i)) ≤ sum n (λ i. five (completed Y' i))
+    completed-grows Y Y' s =
+        omega (
+          arith,
+          completed-total Y,
+          completed-total Y',
+          completion-grows marksOn (λ reserved. takingForUse reserved marksOn) (instituteAt r j .steps) lawful (atPlaces Y) (atPlaces Y') (λ p c. s (candidateOn r j p) c),
+        )

@@ -1,0 +1,109 @@
+-- A sound round is a market: its institutes' completions together.
+use mathlib.Core.Path.{_≡_, refl, sym, _∙_, ap, subst}
+use mathlib.Core.Bool.{Bool, true, false, _&&_}
+use Prim.Native.Nat.{ℕ, zero, suc, _+_, _*_, _/_, _%_, _≤_, _<_}
+use native.Mathlib.Omega.{arith}
+use lib.Dec.{ltb}
+use borrow.Author.Tests.{ltb-true, lt-ltb}
+use Rattle.round.specs.declared.entry.Category.{Category}
+use Rattle.round.specs.declared.entry.Category.the-variants.{Open, SC, ST, OBC, EWS}
+use Rattle.round.specs.Category.{codeOf, categoryOf}
+use Rattle.round.specs.Round.{Round}
+use Rattle.round.specs.Sound.{Sound}
+use Rattle.round.proofs.Words.{and-fst, and-snd}
+use Rattle.allotment.specs.Offers.{OfferSet}
+use Rattle.allotment.specs.Process.{candidateCount, instituteCount}
+use Rattle.allotment.proofs.Market.Sums.{sum, count, bit, sum-le, sum-same}
+use Rattle.allotment.proofs.Market.DoubleSums.{sum-swap}
+use Rattle.allotment.proofs.Market.Laws.{Offers, _⊆_, Market, total}
+use Rattle.allotment.proofs.Rounds.Numbered.{numberOf, code-small, number-institute, number-category, number-back}
+use Rattle.allotment.proofs.Rounds.Completed.{five, five-same, completed, completed-within, completed-stays, completed-grows}
+
+-- the sum over all entries, institute by institute
+sum-fives : (m : ℕ) (f : ℕ → ℕ)
+    → sum (5 * m) f ≡ sum m (λ j. f (numberOf j Open) + f (numberOf j SC) + f (numberOf j ST) + f (numberOf j OBC) + f (numberOf j EWS))
+unfolding sum
+sum-fives zero f = refl
+sum-fives (suc m) f =
+    let e : 5 * suc m ≡ suc (suc (suc (suc (suc (5 * m))))) = omega arith in
+    let a : 5 * m + 0 ≡ 5 * m = omega arith in
+    let b : 5 * m + 1 ≡ suc (5 * m) = omega arith in
+    let c : 5 * m + 2 ≡ suc (suc (5 * m)) = omega arith in
+    let d : 5 * m + 3 ≡ suc (suc (suc (5 * m))) = omega arith in
+    let g : 5 * m + 4 ≡ suc (suc (suc (suc (5 * m)))) = omega arith in
+    rw e (omega (arith, sum-fives m f, ap f a, ap f b, ap f c, ap f d, ap f g))
+
+-- of three tests the last
+and-false-last : (a b x y : Bool) → (a ≡ true → b ≡ true → x ≡ false → y ≡ false) → (a && (b && x)) ≡ false → (a && (b && y)) ≡ false
+and-false-last true true x y h e = h refl refl e
+and-false-last true false x y h e = refl
+and-false-last false b x y h e = refl
+
+-- the offers to institute j
+abbrev pub offersTo : Offers → ℕ → OfferSet
+offersTo O j i c = O i (numberOf j c)
+
+module _ (r : Round) where
+  abbrev pub entryBound : ℕ
+  entryBound = 5 * instituteCount r
+
+  unfoldable pub choiceOf : Offers → Offers
+  choiceOf O i e = ltb i (candidateCount r) && (ltb e entryBound && completed r (e / 5) (offersTo O (e / 5)) i (categoryOf (e % 5)))
+
+  pub choice-bounded : (O : Offers) (i e : ℕ) → choiceOf O i e ≡ true → (i < candidateCount r) × (e < entryBound)
+  unfolding choiceOf
+  choice-bounded O i e t = (
+    ltb-true i (candidateCount r) (and-fst (ltb i (candidateCount r)) _ t),
+    ltb-true e entryBound (and-fst (ltb e entryBound) _ (and-snd (ltb i (candidateCount r)) _ t)),
+  )
+
+  -- what is chosen is what each institute's completion takes
+  pub choice-at : (O : Offers) (i j : ℕ) (c : Category) → i < candidateCount r → j < instituteCount r
+      → choiceOf O i (numberOf j c) ≡ completed r j (offersTo O j) i c
+  unfolding choiceOf
+  choice-at O i j c hi hj =
+      let l : numberOf j c < entryBound = omega (arith, code-small c) in
+      rw (lt-ltb i (candidateCount r) hi, lt-ltb (numberOf j c) entryBound l, number-institute j c, number-category j c)
+
+  pub choice-back : (O : Offers) (i e : ℕ) → choiceOf O i e ≡ true → completed r (e / 5) (offersTo O (e / 5)) i (categoryOf (e % 5)) ≡ true
+  unfolding choiceOf
+  choice-back O i e t = and-snd (ltb e entryBound) _ (and-snd (ltb i (candidateCount r)) _ t)
+
+  choice-total : (O : Offers)
+      → total (candidateCount r) entryBound (choiceOf O) ≡ sum (instituteCount r) (λ j. sum (candidateCount r) (λ i. five (completed r j (offersTo O j) i)))
+  unfolding total count five
+  choice-total O =
+      sum-same (candidateCount r) (λ i. sum entryBound (λ e. bit (choiceOf O i e))) (λ i. sum (instituteCount r) (λ j. five (completed r j (offersTo O j) i))) row
+      ∙ sum-swap (candidateCount r) (instituteCount r) (λ i j. five (completed r j (offersTo O j) i))
+    where
+      row : (i : ℕ) → i < candidateCount r → sum entryBound (λ e. bit (choiceOf O i e)) ≡ sum (instituteCount r) (λ j. five (completed r j (offersTo O j) i))
+      row i l =
+          sum-fives (instituteCount r) (λ e. bit (choiceOf O i e))
+          ∙ sum-same (instituteCount r) (λ j. five (λ c. choiceOf O i (numberOf j c))) (λ j. five (completed r j (offersTo O j) i))
+          (λ j m. five-same (λ c. choiceOf O i (numberOf j c)) (completed r j (offersTo O j) i) (λ c. choice-at O i j c l m))
+
+  module _ {types : ℕ} (sound : Sound types r) where
+    pub round-market : Market (candidateCount r) entryBound choiceOf
+    unfolding choiceOf
+    round-market = record {
+      within = λ O i e t.
+          subst (λ x. O i x ≡ true) (number-back e) (completed-within r (e / 5) (offersTo O (e / 5)) i (categoryOf (e % 5)) (choice-back O i e t));
+      bounded = choice-bounded;
+      stays = λ O P i e s o.
+          and-false-last (ltb i (candidateCount r)) (ltb e entryBound) _ _
+          (λ hi he.
+          let b : e < entryBound = ltb-true e entryBound he in
+          completed-stays r (e / 5) (sound .institute (e / 5) (omega arith)) (offersTo O (e / 5)) (offersTo P (e / 5))
+          (λ k c. s k (numberOf (e / 5) c))
+          i
+          (categoryOf (e % 5))
+          (ap (λ x. O i x) (number-back e) ∙ o));
+      grows = λ O P s.
+          omega (
+            arith,
+            choice-total O,
+            choice-total P,
+            sum-le (instituteCount r) (λ j. sum (candidateCount r) (λ i. five (completed r j (offersTo O j) i))) (λ j. sum (candidateCount r) (λ i. five (completed r j (offersTo P j) i)))
+                (λ j l. completed-grows r j (sound .institute j l) (offersTo O j) (offersTo P j) (λ i c. s i (numberOf j c))),
+          );
+    }

@@ -1,0 +1,201 @@
+-- The process of document 01 is the market's: its turns lead from reached state to reached state, and it ends in the final one.
+use mathlib.Core.Path.{_≡_, refl, sym, _∙_, ap, subst⁻¹}
+use mathlib.Core.Bool.{Bool, true, false, cond, _&&_}
+use mathlib.Core.Logic.{_⊎_, inl, inr}
+use mathlib.Core.List.{List, [], _∷_, map}
+use Prim.Native.Nat.{ℕ, zero, suc, _+_, _≤_, _<_}
+use native.Mathlib.Omega.{arith}
+use native.Mathlib.Decide.{decLt}
+use lib.Dec.{eqb, ltb}
+use lib.ListN.{length, getD, set, replicate, length-set, length-replicate, length-map, List·getD-map}
+use borrow.Author.Tests.{ltb-true, ltb-false, lt-ltb, le-ltb, ne-eqb}
+use Rattle.round.specs.Lists as Lists
+use Rattle.round.specs.Lists.{first}
+use Rattle.round.specs.Round.{Candidate, Round}
+use Rattle.round.specs.Places.{noCandidate}
+use Rattle.round.specs.Sound.{Sound}
+use Rattle.round.proofs.Words.{and-fst, and-snd, and-no, sumOf-front}
+use Rattle.allotment.specs.Rows.{rowAt}
+use Rattle.allotment.specs.Process.{Seat, noSeat, isNone, candidateCount, instituteCount, seatsAfter, mayOffer, turn, turns, entryTotal, tried, offersMade}
+use Rattle.allotment.proofs.Market.Tests.{clash}
+use Rattle.allotment.proofs.Market.Sums.{sum, sum-le, sum-same}
+use Rattle.allotment.proofs.Market.Laws.{Held, Unheld}
+use Rattle.allotment.proofs.Market.Reached.{Reached, start, step, Served, Closed, Final, zeros, set-turned, turned-sum, reached-fits}
+use Rattle.allotment.proofs.Market.AnyOrder as AnyOrder
+use Rattle.allotment.proofs.Rounds.Numbered.{numberOf, rowsOf}
+use Rattle.allotment.proofs.Rounds.First.{first-within, first-passes, first-before}
+use Rattle.allotment.proofs.Rounds.Completed.{sum-is}
+use Rattle.allotment.proofs.Rounds.Institutes.{choiceOf}
+use Rattle.allotment.proofs.Rounds.Running.{stateOf, made, Running}
+use Rattle.allotment.proofs.Rounds.Seats.{Seated, Unseated, seat-of, stepIn}
+
+-- the sum of a list
+sum-listed : (l : List ℕ) → Lists.sum l ≡ Lists.sumOf (length l) (λ i. getD l i 0)
+sum-listed [] = refl
+sum-listed (x ∷ l) = omega (arith, sum-listed l, sumOf-front (length l) (λ i. getD (x ∷ l) i 0))
+
+pub sum-of : (l : List ℕ) → Lists.sum l ≡ sum (length l) (stateOf l)
+sum-of l = sum-listed l ∙ sym (sum-is (length l) (stateOf l))
+
+module _ (r : Round) where
+  pub entries : entryTotal r ≡ sum (candidateCount r) (λ i. rowsOf r i .len)
+  unfolding rowsOf
+  entries =
+      let lengths : List ℕ = map (λ c. length (c .row)) (r .candidates) in
+      sum-of lengths
+      ∙ ap (λ n. sum n (stateOf lengths)) (length-map (r .candidates) (λ c. length (c .row)))
+      ∙ sum-same (candidateCount r) (stateOf lengths) (λ i. length (rowAt r i)) (λ i l. List·getD-map (λ c. length (c .row)) (r .candidates) i noCandidate)
+
+  pub start-running : Running r (replicate (candidateCount r) 0)
+  start-running = record {
+    each = length-replicate (candidateCount r) 0;
+    reached = start (zeros (candidateCount r));
+  }
+
+-- candidate i has a turn
+pub record MayTurn (r : Round) (state : List ℕ) (i : ℕ) : Type 0 where
+  pub inside : i < candidateCount r
+  pub none : Unheld (choiceOf r) (made r state) i
+  pub more : stateOf state i < rowsOf r i .len
+
+-- the state with one more entry of i tried
+abbrev pub advanced : List ℕ → ℕ → List ℕ
+advanced state i = set state i (suc (getD state i 0))
+
+pub turn-running : {r : Round} {state : List ℕ} {i : ℕ} → Running r state → MayTurn r state i → Running r (advanced state i)
+turn-running {r} {state} {i} run may = record {
+  each = length-set state i (suc (getD state i 0)) ∙ run .each;
+  reached = step i (run .reached) (may .inside) (may .none) (may .more) (set-turned state i (suc (getD state i 0)) (omega (arith, run .each)) refl);
+}
+
+pub turn-sum : {r : Round} {state : List ℕ} {i : ℕ} → Running r state → MayTurn r state i
+    → sum (candidateCount r) (stateOf (advanced state i)) ≡ suc (sum (candidateCount r) (stateOf state))
+turn-sum {r} {state} {i} run may =
+    turned-sum (candidateCount r) (may .inside) (set-turned state i (suc (getD state i 0)) (omega (arith, run .each)) refl)
+
+abbrev pub ClosedIn : Round → List ℕ → Type 0
+ClosedIn r state = Closed (candidateCount r) (choiceOf r) (rowsOf r) (stateOf state)
+
+abbrev pub FinalIn : Round → List ℕ → Type 0
+FinalIn r state = Final (candidateCount r) (choiceOf r) (rowsOf r) (stateOf state)
+
+-- somebody has a turn and takes it, or the state is closed and stays
+abbrev pub Next : Round → List ℕ → Type 0
+Next r state = ((i : ℕ) × MayTurn r state i × (turn r state ≡ advanced state i)) ⊎ (ClosedIn r state × (turn r state ≡ state))
+
+pub seated-some : {r : Round} {state : List ℕ} {i : ℕ} → Seated r state i → isNone (getD (seatsAfter r state) i noSeat) ≡ false
+seated-some s = ap isNone (s .seat) ∙ rw (ne-eqb (suc (s .institute)) 0 (λ z. omega arith))
+
+pub unseated-none : {r : Round} {state : List ℕ} {i : ℕ} → Unseated r state i → isNone (getD (seatsAfter r state) i noSeat) ≡ true
+unseated-none s = ap isNone (s .seat)
+
+-- nothing changes any more
+turns-still : (r : Round) (k : ℕ) (state : List ℕ) → turn r state ≡ state → turns r k state ≡ state
+unfolding turns
+turns-still r zero state e = refl
+turns-still r (suc k) state e = ap (turns r k) e ∙ turns-still r k state e
+
+module _ {types : ℕ} {r : Round} (sound : Sound types r) where
+  -- who may offer has a turn
+  pub may-offer : {state : List ℕ} → Running r state → (i : ℕ) → i < candidateCount r → mayOffer r state (seatsAfter r state) i ≡ true → MayTurn r state i
+  unfolding mayOffer rowsOf
+  may-offer {state} run i hi t = go (seat-of sound run i hi)
+    where
+      go : Seated r state i ⊎ Unseated r state i → MayTurn r state i
+      go (inl s) = clash (and-fst (isNone (getD (seatsAfter r state) i noSeat)) _ t) (seated-some s)
+      go (inr s) = record {
+        inside = hi;
+        none = s .none;
+        more = ltb-true _ _ (and-snd (isNone (getD (seatsAfter r state) i noSeat)) _ t);
+      }
+
+  -- who may not offer is served
+  pub not-offer : {state : List ℕ} → Running r state → (i : ℕ) → i < candidateCount r → mayOffer r state (seatsAfter r state) i ≡ false
+      → Served (choiceOf r) (rowsOf r) (stateOf state) i
+  unfolding mayOffer rowsOf
+  not-offer {state} run i hi f = go (seat-of sound run i hi)
+    where
+      go : Seated r state i ⊎ Unseated r state i → Served (choiceOf r) (rowsOf r) (stateOf state) i
+      go (inl s) = inl (numberOf (s .institute) (s .category), s .holds)
+      go (inr s) =
+          let full : length (rowAt r i) ≤ getD state i 0 = ltb-false _ _ (and-no (isNone (getD (seatsAfter r state) i noSeat)) _ f (unseated-none s)) in
+          inr (omega (arith, reached-fits (run .reached) i))
+
+  -- a turn, or nobody has one
+  pub turn-or-closed : {state : List ℕ} → Running r state → Next r state
+  unfolding turn
+  turn-or-closed {state} run = elim (decLt i (candidateCount r)) [
+    | yes l ↦ inl (i, may-offer run i l (first-passes (candidateCount r) may l), ap (λ b. cond b (advanced state i) state) (lt-ltb i (candidateCount r) l))
+    | no l ↦
+        inr (
+          record {
+            fits = reached-fits (run .reached);
+            served = λ p m. not-offer run p m (first-before (candidateCount r) may p (omega arith));
+          },
+          ap (λ b. cond b (advanced state i) state) (le-ltb i (candidateCount r) (omega arith)),
+        )
+  ]
+    where
+      may : ℕ → Bool
+      may = mayOffer r state (seatsAfter r state)
+
+      i : ℕ
+      i = first (candidateCount r) may
+
+  next-running : {state : List ℕ} → Running r state → Running r (turn r state)
+  next-running {state} run = go (turn-or-closed run)
+    where
+      go : Next r state → Running r (turn r state)
+      go (inl (i, may, e)) = subst⁻¹ (Running r) e (turn-running run may)
+      go (inr (c, e)) = subst⁻¹ (Running r) e run
+
+  pub turns-running : (k : ℕ) {state : List ℕ} → Running r state → Running r (turns r k state)
+  unfolding turns
+  turns-running zero run = run
+  turns-running (suc k) run = turns-running k (next-running run)
+
+  pub turns-final : (k : ℕ) {state : List ℕ} → Running r state → sum (candidateCount r) (λ i. rowsOf r i .len) ≤ sum (candidateCount r) (stateOf state) + k
+      → FinalIn r (turns r k state)
+  unfolding turns
+  turns-final zero {state} run few = go (turn-or-closed run)
+    where
+      go : Next r state → FinalIn r state
+      go (inl (i, may, e)) = absurd (omega (arith, turn-sum run may, sum-le (candidateCount r) (stateOf (advanced state i)) (λ i. rowsOf r i .len) (λ p l. reached-fits (turn-running run may .reached) p)))
+      go (inr (c, e)) = record { reached = run .reached; closed = c }
+  turns-final (suc k) {state} run few = go (turn-or-closed run) (λ next. turns-final k {state = next})
+    where
+      go : Next r state
+          → ((next : List ℕ) → Running r next → sum (candidateCount r) (λ i. rowsOf r i .len) ≤ sum (candidateCount r) (stateOf next) + k
+          → FinalIn r (turns r k next))
+          → FinalIn r (turns r k (turn r state))
+      go (inl (i, may, e)) ih =
+          subst⁻¹ (λ next. FinalIn r (turns r k next)) e
+          (ih (advanced state i) (turn-running run may) (omega (arith, turn-sum run may)))
+      go (inr (c, e)) ih =
+          subst⁻¹ (FinalIn r) (ap (turns r k) e ∙ turns-still r k state e)
+          record { reached = run .reached; closed = c }
+
+  pub tried-running : Running r (tried r)
+  unfolding tried
+  tried-running = turns-running (entryTotal r) (start-running r)
+
+  pub tried-final : FinalIn r (tried r)
+  unfolding tried
+  tried-final = turns-final (entryTotal r) (start-running r) (omega (arith, entries r))
+
+  -- the number of offers is that of the turns, and at most that of the entries
+  pub offers-counted : offersMade r ≡ sum (candidateCount r) (stateOf (tried r))
+  unfolding offersMade
+  offers-counted = sum-of (tried r) ∙ ap (λ n. sum n (stateOf (tried r))) (tried-running .each)
+
+  pub offers-turns : offersMade r ≡ AnyOrder.turns (tried-final .reached)
+  offers-turns = offers-counted ∙ sym (AnyOrder.turns-sum (tried-final .reached))
+
+  pub offers-most : offersMade r ≤ entryTotal r
+  offers-most =
+      omega (
+        arith,
+        offers-counted,
+        entries r,
+        sum-le (candidateCount r) (stateOf (tried r)) (λ i. rowsOf r i .len) (λ i l. reached-fits (tried-final .reached) i),
+      )
