@@ -18,10 +18,11 @@ use Rattle.round.specs.Sound.{SoundInstitute}
 use Rattle.round.proofs.Words.{and-fst, and-snd}
 use Rattle.choice.specs.Choice.{choose}
 use Rattle.choice.proofs.Taking.{takingForUse}
-use Rattle.choice.proofs.Categories.{same, same-self, same-category}
+use Rattle.choice.proofs.Offers.{same, same-self, same-category}
 use Rattle.choice.proofs.Chosen.{takenUnder, choose-length, choose-number}
 use Rattle.choice.proofs.Below.{choose-below}
-use Rattle.choice.proofs.Agreement.{Alone, agreement, same-steps}
+use Rattle.choice.proofs.Agreement.{agreement, same-steps}
+use Rattle.choice.proofs.Offers.{Alone}
 use Rattle.allotment.specs.Rows.{sameCategory, categoryAt}
 use Rattle.allotment.specs.Offers.{OfferSet, candidateOn, placeOn, stepsOn, stepFor, takenFrom}
 use Rattle.allotment.proofs.Rounds.Places.{meritLength, place-within, candidate-at, candidate-below, place-of}

@@ -17,7 +17,8 @@ use Rattle.round.specs.Places.{candidateAt, instituteAt, noStep}
 use Rattle.round.specs.Sound.{SoundInstitute}
 use Rattle.round.proofs.Words.{and-fst, and-snd}
 use Rattle.choice.proofs.Taking.{takingForUse}
-use Rattle.choice.proofs.Completion.{Lawful, completion, completion-within, completion-stays, completion-grows, offersIn, offers-by-place, totalTaken}
+use Rattle.choice.proofs.Completion.{Lawful, completion, completion-within, completion-stays, completion-grows, totalTaken}
+use Rattle.choice.proofs.Offers.{offersIn, offers-by-place}
 use Rattle.allotment.specs.Offers.{OfferSet, candidateOn, placeOn}
 use Rattle.allotment.proofs.Market.Sums.{sum, bit, sum-same}
 use Rattle.allotment.proofs.Market.DoubleSums.{sum-through}

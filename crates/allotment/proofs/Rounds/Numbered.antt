@@ -16,7 +16,7 @@ use Rattle.round.specs.Places.{candidateAt, entryAt, noEntry}
 use Rattle.round.specs.Sound.{SoundCandidate}
 use Rattle.round.proofs.Words.{and-fst, and-snd}
 use Rattle.round.proofs.Sound.{code-category}
-use Rattle.choice.proofs.Categories.{same-self, same-category}
+use Rattle.choice.proofs.Offers.{same-self, same-category}
 use Rattle.allotment.specs.Rows.{rowAt, rankIn, entryOf, sameEntry}
 use Rattle.allotment.proofs.Market.Tests.{is-false, clash}
 use Rattle.allotment.proofs.Market.Rows.{Row, Ranked, Rows}
