@@ -6,3 +6,4 @@ pub mod Outcome
 pub mod Truthful
 pub mod Stable
 pub mod Promise
+pub mod Held
