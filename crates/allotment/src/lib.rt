@@ -1,4 +1,5 @@
 // The allotment of a round.
+pub mod clearing;
 
 // The answer of a call: the number of offers, or the number of the refusal with its byte.
 pub enum Answer {

@@ -1,0 +1,15 @@
+// The clearing of a lent area.
+ghost use mathlib.Core.Path.{_≡_};
+ghost use mathlib.Core.List.{_++_};
+ghost use Prim.Native.Nat.{_≤_};
+ghost use lib.ListN.{length, drop, replicate};
+
+// The first bytes of an area become 0.
+pub fn clear(area: &mut [u8], size: usize)
+    requires { ⌜ size ≤ length (now area) ⌝ }
+    ensures { λ _. ⌜ now (area .exit) ≡ replicate size 0 ++ drop size (now (area .entry)) ⌝ }
+{
+    for i in 0..size {
+        area[i] = 0;
+    }
+}
