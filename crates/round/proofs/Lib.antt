@@ -6,3 +6,4 @@ pub mod Seen
 pub mod Found
 pub mod Run
 pub mod Rest
+pub mod Prefix
