@@ -7,3 +7,5 @@ pub mod Found
 pub mod Run
 pub mod Rest
 pub mod Prefix
+pub mod Bodies
+pub mod Codes

@@ -209,3 +209,9 @@ prefix file = go (leb 55373 (length file)) refl
     go : (b : Bool) → leb 55373 (length file) ≡ b → verdict (take 55373 file) ≡ verdict file
     go true e = same-long file (leb-true 55373 (length file) e)
     go false e = let short : length file ≤ 55373 = omega (arith, leb-false 55373 (length file) e) in ap verdict (take-all 55373 file short)
+
+-- a file whose first 55,373 bytes pass has no more
+pub whole : (file : List ℕ) → verdict (take 55373 file) ≡ passes → take 55373 file ≡ file
+whole file e =
+    let short : length file ≤ 55373 = omega (arith, longest (take 55373 file) e, length-take 55373 file) in
+    take-all 55373 file short
