@@ -11,3 +11,4 @@ pub mod Process
 pub mod Standing
 pub mod Given
 pub mod StableRound
+pub mod TruthfulRound

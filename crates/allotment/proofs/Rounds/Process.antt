@@ -22,7 +22,7 @@ use Rattle.allotment.proofs.Market.Sums.{sum, sum-le, sum-same}
 use Rattle.allotment.proofs.Market.Laws.{Held, Unheld}
 use Rattle.allotment.proofs.Market.Reached.{Reached, start, step, Served, Closed, Final, zeros, set-turned, turned-sum, reached-fits}
 use Rattle.allotment.proofs.Market.AnyOrder as AnyOrder
-use Rattle.allotment.proofs.Rounds.Numbered.{numberOf, rowsOf}
+use Rattle.allotment.proofs.Rounds.Numbered.{numberOf, rowBy, rowsOf}
 use Rattle.allotment.proofs.Rounds.First.{first-within, first-passes, first-before}
 use Rattle.allotment.proofs.Rounds.Completed.{sum-is}
 use Rattle.allotment.proofs.Rounds.Institutes.{choiceOf}
@@ -39,7 +39,7 @@ sum-of l = sum-listed l ∙ sym (sum-is (length l) (stateOf l))
 
 module _ (r : Round) where
   pub entries : entryTotal r ≡ sum (candidateCount r) (λ i. rowsOf r i .len)
-  unfolding rowsOf
+  unfolding rowBy
   entries =
       let lengths : List ℕ = map (λ c. length (c .row)) (r .candidates) in
       sum-of lengths
@@ -98,7 +98,7 @@ turns-still r (suc k) state e = ap (turns r k) e ∙ turns-still r k state e
 module _ {types : ℕ} {r : Round} (sound : Sound types r) where
   -- who may offer has a turn
   pub may-offer : {state : List ℕ} → Running r state → (i : ℕ) → i < candidateCount r → mayOffer r state (seatsAfter r state) i ≡ true → MayTurn r state i
-  unfolding mayOffer rowsOf
+  unfolding mayOffer rowBy
   may-offer {state} run i hi t = go (seat-of sound run i hi)
     where
       go : Seated r state i ⊎ Unseated r state i → MayTurn r state i
@@ -112,7 +112,7 @@ module _ {types : ℕ} {r : Round} (sound : Sound types r) where
   -- who may not offer is served
   pub not-offer : {state : List ℕ} → Running r state → (i : ℕ) → i < candidateCount r → mayOffer r state (seatsAfter r state) i ≡ false
       → Served (choiceOf r) (rowsOf r) (stateOf state) i
-  unfolding mayOffer rowsOf
+  unfolding mayOffer rowBy
   not-offer {state} run i hi f = go (seat-of sound run i hi)
     where
       go : Seated r state i ⊎ Unseated r state i → Served (choiceOf r) (rowsOf r) (stateOf state) i

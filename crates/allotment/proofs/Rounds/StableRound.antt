@@ -22,7 +22,7 @@ use Rattle.allotment.proofs.Market.Tests.{clash, or-case, or-right, som
 use Rattle.allotment.proofs.Market.Laws.{Offers}
 use Rattle.allotment.proofs.Market.Reached.{reached-fits}
 use Rattle.allotment.proofs.Market.Stable.{NoneBelow, tried-all}
-use Rattle.allotment.proofs.Rounds.Numbered.{numberOf, code-small, number-institute, number-category, number-back, rowsOf, row-length, rows-rank}
+use Rattle.allotment.proofs.Rounds.Numbered.{numberOf, code-small, number-institute, number-category, number-back, rowBy, rowsOf, row-length, rows-rank}
 use Rattle.allotment.proofs.Rounds.Completed.{completed}
 use Rattle.allotment.proofs.Rounds.Institutes.{round-market}
 use Rattle.allotment.proofs.Rounds.Agreed.{taken-by-steps, same-steps-on}
@@ -74,7 +74,7 @@ module _ {types : ℕ} {r : Round} (sound : Sound types r) where
       setOf i e = eqb (e / 5) j && set i (categoryOf (e % 5))
 
       set-of : (i e : ℕ) → setOf i e ≡ true → (rowsOf r i .rank e ≡ rankIn (rowAt r i) (entryOf j (categoryOf (e % 5)))) × (set i (categoryOf (e % 5)) ≡ true)
-      unfolding rowsOf
+      unfolding rowBy
       set-of i e z = (
         ap (λ q. rankIn (rowAt r i) (entryOf q (categoryOf (e % 5)))) (eqb-true (e / 5) j (and-fst (eqb (e / 5) j) _ z)),
         and-snd (eqb (e / 5) j) _ z,
