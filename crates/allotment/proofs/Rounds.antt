@@ -12,3 +12,4 @@ pub mod Standing
 pub mod Given
 pub mod StableRound
 pub mod TruthfulRound
+pub mod Turn
