@@ -13,3 +13,5 @@ pub mod Given
 pub mod StableRound
 pub mod TruthfulRound
 pub mod Turn
+pub mod Bounds
+pub mod AnyOrder
