@@ -12,23 +12,17 @@ use borrow.Author.Tests.{not-true, eqb-true, eqb-false}
 use Rattle.round.specs.declared.entry.Category.{Category}
 use Rattle.round.specs.Round.{StepRule}
 use Rattle.round.specs.Lists.{sum}
-use Rattle.choice.specs.Step.{takenForUse}
 use Rattle.choice.specs.Choice.{Progress, considers, positionsAt, takenAt, vacantAt, advance, advanceAll, nothingDone, choose}
-use Rattle.choice.proofs.TakingRule.{TakingRule}
 use Rattle.choice.proofs.Sets.{false-unless, clash, and-left, and-right, left-if-out}
-use Rattle.choice.proofs.Filling.{taken-within, taken-irrelevant}
+use Rattle.choice.proofs.Filling.{TakesForUse, taken-within, taken-irrelevant}
 use Rattle.choice.proofs.Completion.{Lawful, Completing, positionsIn, takenIn, complete, completeAll, allLeft, completion, left-before, completion-within}
-use Rattle.choice.proofs.Categories.{same, same-self, same-category}
+use Rattle.choice.proofs.Offers.{Offers, WithinBelow, Alone, same, same-self, same-category}
 use Rattle.choice.proofs.Chosen.{takenUnder, under-none, under-some, choose-number}
 use Rattle.choice.proofs.Tabulate.{getD-tabulate}
 use Rattle.choice.proofs.Below.{progress-below}
 
--- of each place below n there is at most one offer
-abbrev pub Alone : ℕ → (ℕ → Category → Bool) → Type 0
-Alone n Z = (p : ℕ) → p < n → (c d : Category) → Z p c ≡ true → Z p d ≡ true → c ≡ d
-
 -- the steps noted are those under which the offers of Y that are gone were taken
-record Agrees (n : ℕ) (under : ℕ → Category → Bool) (Y : ℕ → Category → Bool) (now : Completing) : Type 0 where
+record Agrees (n : ℕ) (under : ℕ → Category → Bool) (Y : Offers) (now : Completing) : Type 0 where
   within : (p : ℕ) → p < n → (c : Category) → now .left p c ≡ true → Y p c ≡ true
   noted : (p : ℕ) → p < n → (c : Category) → under (getD (now .done .given) p 0) c ≡ (Y p c && not (now .left p c))
   some : (p : ℕ) → p < n → getD (now .done .given) p 0 ≢ 0 → (c : Category) × (under (getD (now .done .given) p 0) c ≡ true)
@@ -47,11 +41,11 @@ noted-other true y true = refl
 noted-other false y true = refl
 noted-other s y false = refl
 
-module _ (marks : List ℕ) (taking : (reserved : List ℕ) → TakingRule (length marks) (sum reserved) (takenForUse reserved marks))
+module _ (marks : List ℕ) (taking : TakesForUse marks)
     (under : ℕ → Category → Bool) (none : (c : Category) → under 0 c ≡ false)
-    (Y Y' Z : ℕ → Category → Bool)
-    (fewer : (p : ℕ) → p < length marks → (c : Category) → Y p c ≡ true → Y' p c ≡ true)
-    (held : (p : ℕ) → p < length marks → (c : Category) → Z p c ≡ true → Y p c ≡ true)
+    (Y Y' Z : Offers)
+    (fewer : WithinBelow (length marks) Y Y')
+    (held : WithinBelow (length marks) Z Y)
     (alone : Alone (length marks) Z) where
   module _ (k : ℕ) (rule : StepRule) (enough : sum (rule .reserved) ≤ rule .own) (now : Completing)
       (agrees : Agrees (length marks) under Y' now)
@@ -132,8 +126,8 @@ module _ (marks : List ℕ) (taking : (reserved : List ℕ) → TakingRule (leng
       let later = all-agree rules (lawful .1) (suc k) next (step-agrees k rule (lawful .0) now agrees soon (λ c. number 0 k (omega arith) c)) ends (λ i j e c. number (suc i) j (omega arith) c) in
       (rw (step-done k rule (lawful .0) now agrees soon) (later .0), later .1)
 
-module _ (marks : List ℕ) (taking : (reserved : List ℕ) → TakingRule (length marks) (sum reserved) (takenForUse reserved marks)) (rules : List StepRule) (lawful : Lawful rules) where
-  between : (Y Y' : ℕ → Category → Bool) → ((p : ℕ) → p < length marks → (c : Category) → Y p c ≡ true → Y' p c ≡ true) → ((p : ℕ) → p < length marks → (c : Category) → completion marks rules Y' p c ≡ true → Y p c ≡ true) → Alone (length marks) (completion marks rules Y') → (advanceAll marks Y 1 rules (nothingDone marks Y') ≡ completeAll marks 1 rules (allLeft marks Y') .done) × Agrees (length marks) (takenUnder rules) Y' (completeAll marks 1 rules (allLeft marks Y'))
+module _ (marks : List ℕ) (taking : TakesForUse marks) (rules : List StepRule) (lawful : Lawful rules) where
+  between : (Y Y' : Offers) → WithinBelow (length marks) Y Y' → WithinBelow (length marks) (completion marks rules Y') Y → Alone (length marks) (completion marks rules Y') → (advanceAll marks Y 1 rules (nothingDone marks Y') ≡ completeAll marks 1 rules (allLeft marks Y') .done) × Agrees (length marks) (takenUnder rules) Y' (completeAll marks 1 rules (allLeft marks Y'))
   unfolding completion allLeft nothingDone
   between Y Y' fewer held alone =
       all-agree marks taking (takenUnder rules) (under-none rules) Y Y' (completion marks rules Y') fewer held alone rules lawful 1 (allLeft marks Y')
@@ -146,14 +140,14 @@ module _ (marks : List ℕ) (taking : (reserved : List ℕ) → TakingRule (leng
       (λ i j e c. let f : j ≡ suc i = omega arith in ap (λ (g : ℕ). takenUnder rules g c) f)
 
   -- the choice takes what the completion takes
-  pub agreement : (Y : ℕ → Category → Bool) → Alone (length marks) (completion marks rules Y) → (p : ℕ) → p < length marks → (c : Category) → takenUnder rules (getD (choose marks Y rules) p 0) c ≡ completion marks rules Y p c
+  pub agreement : (Y : Offers) → Alone (length marks) (completion marks rules Y) → (p : ℕ) → p < length marks → (c : Category) → takenUnder rules (getD (choose marks Y rules) p 0) c ≡ completion marks rules Y p c
   unfolding completion choose
   agreement Y alone p l c =
       let both = between Y Y (λ r m d y. y) (λ r m d. completion-within marks rules Y r d) alone in
       ap (λ (done : Progress). takenUnder rules (getD (done .given) p 0) c) (both .0) ∙ both .1 .noted p l c
 
   -- a place of which the completion takes no offer has no step
-  pub agreement-none : (Y : ℕ → Category → Bool) → Alone (length marks) (completion marks rules Y) → (p : ℕ) → p < length marks → ((c : Category) → completion marks rules Y p c ≡ false) → getD (choose marks Y rules) p 0 ≡ 0
+  pub agreement-none : (Y : Offers) → Alone (length marks) (completion marks rules Y) → (p : ℕ) → p < length marks → ((c : Category) → completion marks rules Y p c ≡ false) → getD (choose marks Y rules) p 0 ≡ 0
   agreement-none Y alone p l out = go (eqb (getD (choose marks Y rules) p 0) 0) refl
     where
       go : (b : Bool) → eqb (getD (choose marks Y rules) p 0) 0 ≡ b → getD (choose marks Y rules) p 0 ≡ 0
@@ -163,7 +157,7 @@ module _ (marks : List ℕ) (taking : (reserved : List ℕ) → TakingRule (leng
           clash (one .1) (agreement Y alone p l (one .0) ∙ out (one .0))
 
   -- offers between those taken and those offered get the same steps
-  pub same-steps : (Y Y' : ℕ → Category → Bool) → ((p : ℕ) → p < length marks → (c : Category) → Y p c ≡ true → Y' p c ≡ true) → ((p : ℕ) → p < length marks → (c : Category) → completion marks rules Y' p c ≡ true → Y p c ≡ true) → Alone (length marks) (completion marks rules Y') → choose marks Y rules ≡ choose marks Y' rules
+  pub same-steps : (Y Y' : Offers) → WithinBelow (length marks) Y Y' → WithinBelow (length marks) (completion marks rules Y') Y → Alone (length marks) (completion marks rules Y') → choose marks Y rules ≡ choose marks Y' rules
   unfolding choose nothingDone
   same-steps Y Y' fewer held alone =
       ap (λ (done : Progress). done .given) (between Y Y' fewer held alone .0 ∙ sym (between Y' Y' (λ r m d y. y) (λ r m d. completion-within marks rules Y' r d) alone .0))

@@ -11,6 +11,7 @@ use Rattle.round.specs.Round.{StepRule}
 use Rattle.choice.specs.Step.{takenBefore, takenForUse, remaining, takenByMerit, taken}
 use Rattle.choice.specs.Choice.{Progress, considers, positionsAt, takenAt, vacantAt, advance, advanceAll, nothingDone, choose}
 use Rattle.choice.proofs.Sets.{count-cong}
+use Rattle.choice.proofs.Offers.{Offers}
 use Rattle.choice.proofs.Completion.{progress}
 use Rattle.choice.proofs.Tabulate.{tabulate-cong}
 
@@ -46,7 +47,7 @@ progress-below n k positions receiver done T T' alike =
     let number = count-cong n T T' alike in
     λ i. record { given = given i; handed = λ j. done .handed j + cond (eqb j receiver) (positions - number i) 0 }
 
-module _ (marks : List ℕ) (Y Y' : ℕ → Category → Bool) (alike : (p : ℕ) → p < length marks → (c : Category) → Y p c ≡ Y' p c) where
+module _ (marks : List ℕ) (Y Y' : Offers) (alike : (p : ℕ) → p < length marks → (c : Category) → Y p c ≡ Y' p c) where
   advance-below : (k : ℕ) (rule : StepRule) (done : Progress) → advance marks Y k rule done ≡ advance marks Y' k rule done
   unfolding advance vacantAt takenAt positionsAt considers
   advance-below k rule done =

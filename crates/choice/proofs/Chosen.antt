@@ -11,7 +11,7 @@ use Rattle.round.specs.Round.{StepRule}
 use Rattle.choice.specs.Step.{raises, takenBefore, takenForUse, remaining, takenByMerit, taken}
 use Rattle.choice.specs.Choice.{Progress, considers, takenAt, advance, advanceAll, nothingDone, choose}
 use Rattle.choice.proofs.Sets.{clash, and-left}
-use Rattle.choice.proofs.Categories.{same, same-self, same-category}
+use Rattle.choice.proofs.Offers.{Offers, same, same-self, same-category}
 use Rattle.choice.proofs.Tabulate.{length-tabulate, getD-tabulate, tabulate-bound, getD-zeros}
 
 -- k is the number, from 1, of a rule of this category
@@ -45,7 +45,7 @@ pub taken-considered : (reserved marks : List ℕ) (X : ℕ → Bool) (q p : ℕ
 unfolding taken takenByMerit remaining takenForUse
 taken-considered reserved marks X q p = is-considered (X p) (raises reserved (takenBefore reserved marks X p) (getD marks p 0)) _
 
-module _ (marks : List ℕ) (Y : ℕ → Category → Bool) where
+module _ (marks : List ℕ) (Y : Offers) where
   all-length : (rules : List StepRule) (k : ℕ) (done : Progress) → length (done .given) ≡ length marks → length (advanceAll marks Y k rules done .given) ≡ length marks
   unfolding advanceAll advance
   all-length [] k done e = e

@@ -7,17 +7,16 @@ use mathlib.Core.List.{List, [], _∷_}
 use native.Mathlib.Omega.{arith}
 use lib.Dec.{eqb, ltb}
 use lib.ListN.{length, getD}
-use borrow.Author.Tests.{ltb-true, lt-ltb, eqb-true, ne-eqb}
+use borrow.Author.Tests.{ltb-true, eqb-true, ne-eqb}
 use Rattle.round.specs.declared.entry.Category.{Category}
 use Rattle.round.specs.declared.entry.Category.the-variants.{Open, SC, ST, OBC, EWS}
 use Rattle.round.specs.Round.{StepRule}
-use Rattle.round.specs.Lists.{tabulate, bit, count, sum, sumOf}
-use Rattle.choice.specs.Step.{takenForUse, taken}
+use Rattle.round.specs.Lists.{tabulate, count, sum}
+use Rattle.choice.specs.Step.{taken}
 use Rattle.choice.specs.Choice.{Progress, nothingDone}
-use Rattle.choice.proofs.TakingRule.{TakingRule}
-use Rattle.choice.proofs.Sets.{true-unless, clash, and-left, and-right, left-if-out, out-if-left, count-mono, count-cong, same-by-count, count-split}
-use Rattle.choice.proofs.Categories.{same, same-category}
-use Rattle.choice.proofs.Filling.{taken-within, taken-stays, taken-count}
+use Rattle.choice.proofs.Sets.{true-unless, clash, and-left, and-right, left-if-out, out-if-left, count-mono, count-cong, count-split}
+use Rattle.choice.proofs.Offers.{Offers, Within, WithinBelow, same, same-category, offersIn, offers-split, same-by-offers, cutOffers, cut-in}
+use Rattle.choice.proofs.Filling.{TakesForUse, taken-within, taken-stays, taken-count}
 
 -- each step's reserved positions are positions of its own
 abbrev pub Lawful : List StepRule → Type 0
@@ -33,7 +32,7 @@ progress n k positions receiver T done = record {
 
 -- what the steps done so far leave: the offers not taken, and the steps and vacancies as the choice keeps them
 pub record Completing : Type 0 where
-  pub left : ℕ → Category → Bool
+  pub left : Offers
   pub done : Progress
 
 module _ (marks : List ℕ) where
@@ -58,28 +57,17 @@ module _ (marks : List ℕ) where
   completeAll k [] now = now
   completeAll k (rule ∷ rules) now = completeAll (suc k) rules (complete k rule now)
 
-  unfoldable pub allLeft : (ℕ → Category → Bool) → Completing
+  unfoldable pub allLeft : Offers → Completing
   allLeft offered = record { left = offered; done = nothingDone marks offered }
 
   -- the offers taken in all
-  unfoldable pub completion : List StepRule → (ℕ → Category → Bool) → ℕ → Category → Bool
+  unfoldable pub completion : List StepRule → Offers → Offers
   completion rules offered p c = offered p c && not (completeAll 1 rules (allLeft offered) .left p c)
 
--- how many offers the set has, of the places below n
-unfoldable pub offersIn : ℕ → (ℕ → Category → Bool) → ℕ
-offersIn n Y =
-    count n (λ p. Y p Open) + count n (λ p. Y p SC) + count n (λ p. Y p ST) + count n (λ p. Y p OBC) + count n (λ p. Y p EWS)
-
--- the same, place by place
-pub offers-by-place : (n : ℕ) (Y : ℕ → Category → Bool) → offersIn n Y ≡ sumOf n (λ p. bit (Y p Open) + bit (Y p SC) + bit (Y p ST) + bit (Y p OBC) + bit (Y p EWS))
-unfolding offersIn
-offers-by-place zero Y = refl
-offers-by-place (suc n) Y = omega (arith, offers-by-place n Y)
-
-unfoldable pub totalTaken : List ℕ → List StepRule → (ℕ → Category → Bool) → ℕ
+unfoldable pub totalTaken : List ℕ → List StepRule → Offers → ℕ
 totalTaken marks rules offered = offersIn (length marks) (completion marks rules offered)
 
-pub completion-within : (marks : List ℕ) (rules : List StepRule) (Y : ℕ → Category → Bool) (p : ℕ) (c : Category) → completion marks rules Y p c ≡ true → Y p c ≡ true
+pub completion-within : (marks : List ℕ) (rules : List StepRule) (Y : Offers) (p : ℕ) (c : Category) → completion marks rules Y p c ≡ true → Y p c ≡ true
 unfolding completion
 completion-within marks rules Y p c = and-left (Y p c) _
 
@@ -111,35 +99,6 @@ one-category ST t = omega arith
 one-category OBC t = omega arith
 one-category EWS t = omega arith
 
-offers-split : (n : ℕ) (Y L : ℕ → Category → Bool) → ((p : ℕ) (c : Category) → L p c ≡ true → Y p c ≡ true) → offersIn n Y ≡ offersIn n L + offersIn n (λ p c. Y p c && not (L p c))
-unfolding offersIn
-offers-split n Y L s =
-    let part : (c : Category) → count n (λ p. Y p c) ≡ count n (λ p. L p c) + count n (λ p. Y p c && not (L p c)) =
-    λ c. count-split n (λ p. Y p c) (λ p. L p c) (λ p l. s p c) in
-    omega (arith, part Open, part SC, part ST, part OBC, part EWS)
-
--- a set of offers within another that has no more is that set
-same-by-offers : (n : ℕ) (X Y : ℕ → Category → Bool) → ((p : ℕ) → p < n → (c : Category) → X p c ≡ true → Y p c ≡ true) → offersIn n Y ≤ offersIn n X → (p : ℕ) → p < n → (c : Category) → X p c ≡ Y p c
-unfolding offersIn
-same-by-offers n X Y s few p l c = same-by-count n (λ r. X r c) (λ r. Y r c) (λ r m. s r m c) (each c) p l
-  where
-    part : (d : Category) → count n (λ r. X r d) ≤ count n (λ r. Y r d)
-    part d = count-mono n (λ r. X r d) (λ r. Y r d) (λ r m. s r m d)
-
-    each : (d : Category) → count n (λ r. Y r d) ≤ count n (λ r. X r d)
-    each Open = omega (arith, few, part SC, part ST, part OBC, part EWS)
-    each SC = omega (arith, few, part Open, part ST, part OBC, part EWS)
-    each ST = omega (arith, few, part Open, part SC, part OBC, part EWS)
-    each OBC = omega (arith, few, part Open, part SC, part ST, part EWS)
-    each EWS = omega (arith, few, part Open, part SC, part ST, part OBC)
-
--- the offers of the places below n
-abbrev cutOffers : ℕ → (ℕ → Category → Bool) → ℕ → Category → Bool
-cutOffers n Y p c = ltb p n && Y p c
-
-cut-in : (n : ℕ) (Y : ℕ → Category → Bool) (p : ℕ) → p < n → (c : Category) → Y p c ≡ true → cutOffers n Y p c ≡ true
-cut-in n Y p l c y = rw (lt-ltb p n l) y
-
 -- the sum of h k, h (k + 1), .., m in all
 abbrev sumFrom : ℕ → ℕ → (ℕ → ℕ) → ℕ
 sumFrom k zero h = 0
@@ -169,7 +128,7 @@ cond-between : (b : Bool) (v v' : ℕ) → v' ≤ v → cond b v 0 + v' ≤ cond
 cond-between true v v' h = omega arith
 cond-between false v v' h = omega arith
 
-module _ (marks : List ℕ) (taking : (reserved : List ℕ) → TakingRule (length marks) (sum reserved) (takenForUse reserved marks)) where
+module _ (marks : List ℕ) (taking : TakesForUse marks) where
   -- what a step takes leaves
   step-offers : (k : ℕ) (rule : StepRule) (now : Completing) → offersIn (length marks) (complete marks k rule now .left) + count (length marks) (takenIn marks k rule now) ≡ offersIn (length marks) (now .left)
   unfolding offersIn complete takenIn
@@ -185,7 +144,7 @@ module _ (marks : List ℕ) (taking : (reserved : List ℕ) → TakingRule (leng
 
   -- one step, from fewer offers and more positions and from more offers and fewer positions
   module _ (k : ℕ) (rule : StepRule) (enough : sum (rule .reserved) ≤ rule .own) (now now' : Completing)
-      (fewer : (p : ℕ) (c : Category) → now .left p c ≡ true → now' .left p c ≡ true)
+      (fewer : Within (now .left) (now' .left))
       (more : (j : ℕ) → now' .done .handed j ≤ now .done .handed j) where
     step-stays : (p : ℕ) (c : Category) → complete marks k rule now .left p c ≡ true → complete marks k rule now' .left p c ≡ true
     unfolding complete takenIn positionsIn
@@ -245,7 +204,7 @@ module _ (marks : List ℕ) (taking : (reserved : List ℕ) → TakingRule (leng
           cond-between (among (suc k) (length rules) r) v v' step-vacant,
         )
 
-  all-stay : (rules : List StepRule) → Lawful rules → (k : ℕ) (now now' : Completing) → ((p : ℕ) (c : Category) → now .left p c ≡ true → now' .left p c ≡ true) → ((j : ℕ) → now' .done .handed j ≤ now .done .handed j) → (p : ℕ) (c : Category) → completeAll marks k rules now .left p c ≡ true → completeAll marks k rules now' .left p c ≡ true
+  all-stay : (rules : List StepRule) → Lawful rules → (k : ℕ) (now now' : Completing) → Within (now .left) (now' .left) → ((j : ℕ) → now' .done .handed j ≤ now .done .handed j) → (p : ℕ) (c : Category) → completeAll marks k rules now .left p c ≡ true → completeAll marks k rules now' .left p c ≡ true
   unfolding completeAll
   all-stay [] lawful k now now' fewer more = fewer
   all-stay (rule ∷ rules) lawful k now now' fewer more =
@@ -254,7 +213,7 @@ module _ (marks : List ℕ) (taking : (reserved : List ℕ) → TakingRule (leng
       (step-handed k rule (lawful .0) now now' fewer more)
 
   -- what is not taken from some offers is not taken from more
-  pub completion-stays : (rules : List StepRule) → Lawful rules → (Y Y' : ℕ → Category → Bool) → ((p : ℕ) (c : Category) → Y p c ≡ true → Y' p c ≡ true) → (p : ℕ) (c : Category) → Y p c ≡ true → completion marks rules Y p c ≡ false → completion marks rules Y' p c ≡ false
+  pub completion-stays : (rules : List StepRule) → Lawful rules → (Y Y' : Offers) → Within Y Y' → (p : ℕ) (c : Category) → Y p c ≡ true → completion marks rules Y p c ≡ false → completion marks rules Y' p c ≡ false
   unfolding completion allLeft nothingDone
   completion-stays rules lawful Y Y' fewer p c y out =
       out-if-left (Y' p c) _
@@ -262,7 +221,7 @@ module _ (marks : List ℕ) (taking : (reserved : List ℕ) → TakingRule (leng
       (left-if-out (Y p c) _ y out))
 
   -- with fewer offers and more positions handed, the steps to come take more only by what they were handed more
-  all-take : (rules : List StepRule) → Lawful rules → (k : ℕ) (now now' : Completing) → ((p : ℕ) (c : Category) → now .left p c ≡ true → now' .left p c ≡ true) → ((j : ℕ) → now' .done .handed j ≤ now .done .handed j) → offersIn (length marks) (now .left) + offersIn (length marks) (completeAll marks k rules now' .left) + sumFrom k (length rules) (now' .done .handed) ≤ offersIn (length marks) (now' .left) + offersIn (length marks) (completeAll marks k rules now .left) + sumFrom k (length rules) (now .done .handed)
+  all-take : (rules : List StepRule) → Lawful rules → (k : ℕ) (now now' : Completing) → Within (now .left) (now' .left) → ((j : ℕ) → now' .done .handed j ≤ now .done .handed j) → offersIn (length marks) (now .left) + offersIn (length marks) (completeAll marks k rules now' .left) + sumFrom k (length rules) (now' .done .handed) ≤ offersIn (length marks) (now' .left) + offersIn (length marks) (completeAll marks k rules now .left) + sumFrom k (length rules) (now .done .handed)
   unfolding completeAll
   all-take [] lawful k now now' fewer more = omega arith
   all-take (rule ∷ rules) lawful k now now' fewer more =
@@ -272,7 +231,7 @@ module _ (marks : List ℕ) (taking : (reserved : List ℕ) → TakingRule (leng
       (step-handed k rule (lawful .0) now now' fewer more))
 
   -- more offers take no fewer
-  pub completion-grows : (rules : List StepRule) → Lawful rules → (Y Y' : ℕ → Category → Bool) → ((p : ℕ) (c : Category) → Y p c ≡ true → Y' p c ≡ true) → totalTaken marks rules Y ≤ totalTaken marks rules Y'
+  pub completion-grows : (rules : List StepRule) → Lawful rules → (Y Y' : Offers) → Within Y Y' → totalTaken marks rules Y ≤ totalTaken marks rules Y'
   unfolding totalTaken completion allLeft nothingDone
   completion-grows rules lawful Y Y' fewer =
       omega (
@@ -283,7 +242,7 @@ module _ (marks : List ℕ) (taking : (reserved : List ℕ) → TakingRule (leng
       )
 
   module _ (rules : List StepRule) (lawful : Lawful rules) where
-    same-within : (Y Y' : ℕ → Category → Bool) → ((p : ℕ) (c : Category) → Y p c ≡ true → Y' p c ≡ true) → ((p : ℕ) → p < length marks → (c : Category) → completion marks rules Y' p c ≡ true → Y p c ≡ true) → (p : ℕ) → p < length marks → (c : Category) → completion marks rules Y p c ≡ completion marks rules Y' p c
+    same-within : (Y Y' : Offers) → Within Y Y' → WithinBelow (length marks) (completion marks rules Y') Y → (p : ℕ) → p < length marks → (c : Category) → completion marks rules Y p c ≡ completion marks rules Y' p c
     unfolding totalTaken
     same-within Y Y' s held p l c =
         sym
@@ -292,11 +251,11 @@ module _ (marks : List ℕ) (taking : (reserved : List ℕ) → TakingRule (leng
         (completion-grows rules lawful Y Y' s)
         p l c)
 
-    cut-same : (Y : ℕ → Category → Bool) (p : ℕ) → p < length marks → (c : Category) → completion marks rules (cutOffers (length marks) Y) p c ≡ completion marks rules Y p c
+    cut-same : (Y : Offers) (p : ℕ) → p < length marks → (c : Category) → completion marks rules (cutOffers (length marks) Y) p c ≡ completion marks rules Y p c
     cut-same Y = same-within (cutOffers (length marks) Y) Y (λ p c o. and-right (ltb p (length marks)) (Y p c) o) (λ p l c t. cut-in (length marks) Y p l c (completion-within marks rules Y p c t))
 
     -- offers that are not taken may be left out
-    pub completion-irrelevant : (Y Y' : ℕ → Category → Bool) → ((p : ℕ) → p < length marks → (c : Category) → Y p c ≡ true → Y' p c ≡ true) → ((p : ℕ) → p < length marks → (c : Category) → completion marks rules Y' p c ≡ true → Y p c ≡ true) → (p : ℕ) → p < length marks → (c : Category) → completion marks rules Y p c ≡ completion marks rules Y' p c
+    pub completion-irrelevant : (Y Y' : Offers) → WithinBelow (length marks) Y Y' → WithinBelow (length marks) (completion marks rules Y') Y → (p : ℕ) → p < length marks → (c : Category) → completion marks rules Y p c ≡ completion marks rules Y' p c
     completion-irrelevant Y Y' s held p l c =
         sym (cut-same Y p l c)
         ∙ same-within (cutOffers (length marks) Y) (cutOffers (length marks) Y')
@@ -308,5 +267,5 @@ module _ (marks : List ℕ) (taking : (reserved : List ℕ) → TakingRule (leng
         ∙ cut-same Y' p l c
 
     -- the offers of places that are none do not matter
-    pub completion-below : (Y Y' : ℕ → Category → Bool) → ((p : ℕ) → p < length marks → (c : Category) → Y p c ≡ Y' p c) → (p : ℕ) → p < length marks → (c : Category) → completion marks rules Y p c ≡ completion marks rules Y' p c
-    completion-below Y Y' same = completion-irrelevant Y Y' (λ p l c y. sym (same p l c) ∙ y) (λ p l c t. same p l c ∙ completion-within marks rules Y' p c t)
+    pub completion-below : (Y Y' : Offers) → ((p : ℕ) → p < length marks → (c : Category) → Y p c ≡ Y' p c) → (p : ℕ) → p < length marks → (c : Category) → completion marks rules Y p c ≡ completion marks rules Y' p c
+    completion-below Y Y' alike = completion-irrelevant Y Y' (λ p l c y. sym (alike p l c) ∙ y) (λ p l c t. alike p l c ∙ completion-within marks rules Y' p c t)

@@ -122,8 +122,12 @@ module _ (n bound : ℕ) (H : (ℕ → Bool) → ℕ → Bool) (law : TakingRule
   pub filled-irrelevant : (q : ℕ) → bound ≤ q → (X X' : ℕ → Bool) → ((p : ℕ) → p < n → X p ≡ true → X' p ≡ true) → ((p : ℕ) → p < n → filled n H q X' p ≡ true → X p ≡ true) → (p : ℕ) → p < n → filled n H q X p ≡ filled n H q X' p
   filled-irrelevant q enough = irrelevant n q (filled n H q) (filled-rule q enough)
 
+-- those taken for use are a taking rule's, whatever is reserved
+abbrev pub TakesForUse : List ℕ → Type 0
+TakesForUse marks = (reserved : List ℕ) → TakingRule (length marks) (sum reserved) (takenForUse reserved marks)
+
 -- the same of a step's places, where those taken for use are a taking rule's
-module _ (marks : List ℕ) (taking : (reserved : List ℕ) → TakingRule (length marks) (sum reserved) (takenForUse reserved marks)) (reserved : List ℕ) where
+module _ (marks : List ℕ) (taking : TakesForUse marks) (reserved : List ℕ) where
   pub taken-within : (q : ℕ) (X : ℕ → Bool) (p : ℕ) → taken reserved marks X q p ≡ true → X p ≡ true
   unfolding taken takenByMerit remaining filled
   taken-within = filled-within (length marks) (sum reserved) (takenForUse reserved marks) (taking reserved)

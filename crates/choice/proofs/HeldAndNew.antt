@@ -8,27 +8,25 @@ use lib.Dec.{eqb}
 use lib.ListN.{length, getD}
 use Rattle.round.specs.declared.entry.Category.{Category}
 use Rattle.round.specs.Round.{StepRule}
-use Rattle.round.specs.Lists.{sum}
-use Rattle.choice.specs.Step.{takenForUse}
 use Rattle.choice.specs.Choice.{choose}
-use Rattle.choice.proofs.TakingRule.{TakingRule}
 use Rattle.choice.proofs.Sets.{true-unless, clash}
-use Rattle.choice.proofs.Categories.{same}
+use Rattle.choice.proofs.Offers.{Offers, WithinBelow, Alone, same}
+use Rattle.choice.proofs.Filling.{TakesForUse}
 use Rattle.choice.proofs.Completion.{Lawful, completion, completion-within, completion-stays}
 use Rattle.choice.proofs.Chosen.{takenUnder, choose-offered}
-use Rattle.choice.proofs.Agreement.{Alone, agreement, same-steps}
+use Rattle.choice.proofs.Agreement.{agreement, same-steps}
 
 -- the offers and that of place p₀ of category c₀
-abbrev pub withOffer : (ℕ → Category → Bool) → ℕ → Category → ℕ → Category → Bool
+abbrev pub withOffer : Offers → ℕ → Category → Offers
 withOffer Y p₀ c₀ p c = Y p c || (eqb p p₀ && same c c₀)
 
 or-mono : (a b x : Bool) → (a ≡ true → b ≡ true) → (a || x) ≡ true → (b || x) ≡ true
 or-mono true b x f e = rw (f refl)
 or-mono false b x f e = rw e (or-true b)
 
-module _ (marks : List ℕ) (taking : (reserved : List ℕ) → TakingRule (length marks) (sum reserved) (takenForUse reserved marks)) (rules : List StepRule) (lawful : Lawful rules) where
+module _ (marks : List ℕ) (taking : TakesForUse marks) (rules : List StepRule) (lawful : Lawful rules) where
   -- O: all offers before the new one; Y: of those at least what is taken
-  pub held-and-new : (O Y : ℕ → Category → Bool) → ((p : ℕ) → p < length marks → (c : Category) → Y p c ≡ true → O p c ≡ true) → ((p : ℕ) → p < length marks → (c : Category) → completion marks rules O p c ≡ true → Y p c ≡ true) → (p₀ : ℕ) (c₀ : Category) → Alone (length marks) (completion marks rules (withOffer O p₀ c₀)) → choose marks (withOffer Y p₀ c₀) rules ≡ choose marks (withOffer O p₀ c₀) rules
+  pub held-and-new : (O Y : Offers) → WithinBelow (length marks) Y O → WithinBelow (length marks) (completion marks rules O) Y → (p₀ : ℕ) (c₀ : Category) → Alone (length marks) (completion marks rules (withOffer O p₀ c₀)) → choose marks (withOffer Y p₀ c₀) rules ≡ choose marks (withOffer O p₀ c₀) rules
   held-and-new O Y fewer held p₀ c₀ alone =
       same-steps marks taking rules lawful (withOffer Y p₀ c₀) (withOffer O p₀ c₀)
       (λ p l c. or-mono (Y p c) (O p c) (eqb p p₀ && same c c₀) (fewer p l c))
@@ -44,7 +42,7 @@ module _ (marks : List ℕ) (taking : (reserved : List ℕ) → TakingRule (leng
           rw (held p l c inO)
 
   -- the same with what the choice itself holds of O
-  pub chosen-and-new : (O : ℕ → Category → Bool) → Alone (length marks) (completion marks rules O) → (p₀ : ℕ) (c₀ : Category) → Alone (length marks) (completion marks rules (withOffer O p₀ c₀)) → choose marks (withOffer (λ p c. takenUnder rules (getD (choose marks O rules) p 0) c) p₀ c₀) rules ≡ choose marks (withOffer O p₀ c₀) rules
+  pub chosen-and-new : (O : Offers) → Alone (length marks) (completion marks rules O) → (p₀ : ℕ) (c₀ : Category) → Alone (length marks) (completion marks rules (withOffer O p₀ c₀)) → choose marks (withOffer (λ p c. takenUnder rules (getD (choose marks O rules) p 0) c) p₀ c₀) rules ≡ choose marks (withOffer O p₀ c₀) rules
   chosen-and-new O alone =
       held-and-new O (λ p c. takenUnder rules (getD (choose marks O rules) p 0) c)
       (choose-offered marks O rules)

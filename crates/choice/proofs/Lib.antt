@@ -5,7 +5,7 @@ pub mod Tight
 pub mod Hall
 pub mod Taking
 pub mod Sets
-pub mod Categories
+pub mod Offers
 pub mod Tabulate
 pub mod Filling
 pub mod Completion

@@ -1,9 +1,9 @@
 -- Turns of a sound round in any order end with the same entries tried, and so with the same list after as many offers.
-use mathlib.Core.Path.{_≡_, refl, sym, _∙_, ap, subst}
+use mathlib.Core.Path.{_≡_, sym, _∙_, ap}
 use mathlib.Core.Bool.{true, false}
 use mathlib.Core.List.{List}
-use Prim.Native.Nat.{ℕ, suc, _<_}
-use lib.ListN.{length, getD, set, replicate}
+use Prim.Native.Nat.{ℕ, _<_}
+use lib.ListN.{getD, replicate}
 use lib.Seq.{ext-getD}
 use Rattle.round.specs.Lists as Lists
 use Rattle.round.specs.Round.{Round}
@@ -14,8 +14,8 @@ use Rattle.allotment.proofs.Market.Reached.{Final, reached-fits}
 use Rattle.allotment.proofs.Market.AnyOrder.{any-order}
 use Rattle.allotment.proofs.Rounds.Numbered.{rowsOf}
 use Rattle.allotment.proofs.Rounds.Institutes.{choiceOf, round-market}
-use Rattle.allotment.proofs.Rounds.Running.{stateOf, Running}
-use Rattle.allotment.proofs.Rounds.Process.{advanced, ClosedIn, start-running, turn-running, may-offer, not-offer, tried-running, tried-final}
+use Rattle.allotment.proofs.Rounds.Running.{Running}
+use Rattle.allotment.proofs.Rounds.Process.{advanced, start-running, turn-running, may-offer, not-offer, tried-running, tried-final}
 
 -- offers in any order: each by somebody who may offer
 pub data Offered (r : Round) : List ℕ → Type 0 where

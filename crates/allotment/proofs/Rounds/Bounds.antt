@@ -1,9 +1,9 @@
 -- How large the numbers of a sound round's answer are: a seat for each candidate, of bytes; closing places of two.
-use mathlib.Core.Path.{_≡_, refl, sym, _∙_, ap}
+use mathlib.Core.Path.{_≡_, refl, ap}
 use mathlib.Core.Bool.{Bool, true, false, cond}
 use mathlib.Core.Logic.{_⊎_, inl, inr}
 use mathlib.Core.List.{List}
-use Prim.Native.Nat.{ℕ, zero, suc, _+_, _≤_, _<_, max}
+use Prim.Native.Nat.{ℕ, zero, suc, _≤_, _<_}
 use native.Mathlib.Omega.{arith}
 use native.Mathlib.Decide.{decLt}
 use lib.Dec.{ltb}
@@ -15,7 +15,7 @@ use Rattle.round.specs.Sound.{SoundInstitute, Sound}
 use Rattle.round.proofs.Words.{length-tabulate}
 use Rattle.choice.specs.Use.{greatest}
 use Rattle.allotment.specs.Offers.{candidateOn, placeOn}
-use Rattle.allotment.specs.Process.{Seat, noSeat, candidateCount, instituteCount, madeTo, chosen, seatBy, seatsAfter, tried, seats}
+use Rattle.allotment.specs.Process.{Seat, noSeat, candidateCount, instituteCount, madeTo, chosen, seatBy, seatsAfter}
 use Rattle.allotment.specs.Areas.{seatIs, closingPlace}
 use Rattle.allotment.proofs.Market.Sums.{sum, bit, sum-le, sum-same}
 use Rattle.allotment.proofs.Market.DoubleSums.{sum-through}
@@ -23,7 +23,6 @@ use Rattle.allotment.proofs.Rounds.Places.{meritLength, candidate-at, c
 use Rattle.allotment.proofs.Rounds.Agreed.{step-number}
 use Rattle.allotment.proofs.Rounds.Running.{Running}
 use Rattle.allotment.proofs.Rounds.Seats.{Seated, Unseated, seat-of}
-use Rattle.allotment.proofs.Rounds.Process.{tried-running}
 
 sum-ones : (k : ℕ) → sum k (λ i. 1) ≡ k
 unfolding sum

@@ -12,12 +12,11 @@ use Rattle.round.specs.declared.entry.Category.{Category}
 use Rattle.round.specs.Round.{Round}
 use Rattle.round.specs.Sound.{Sound}
 use Rattle.round.proofs.Words.{and-fst, and-snd}
-use Rattle.choice.proofs.Categories.{same-self, same-category}
+use Rattle.choice.proofs.Offers.{same-self, same-category}
 use Rattle.allotment.specs.Rows.{sameCategory, categoryAt}
 use Rattle.allotment.specs.Process.{Seat, noSeat, candidateCount, instituteCount, madeTo, seatsAfter}
 use Rattle.allotment.specs.Truthful.{isStep}
 use Rattle.allotment.specs.Stable.{given, stepOf}
-use Rattle.allotment.proofs.Market.Tests.{clash}
 use Rattle.allotment.proofs.Rounds.Numbered.{numberOf}
 use Rattle.allotment.proofs.Rounds.Agreed.{step-number}
 use Rattle.allotment.proofs.Rounds.Running.{held, Running}

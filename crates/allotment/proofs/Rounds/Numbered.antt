@@ -1,6 +1,6 @@
 -- Entries as numbers: institute j, from 0, with a category is 5 * j + code. So numbered, the rows of a sound round are ranked.
 use mathlib.Core.Path.{_≡_, refl, sym, _∙_, ap}
-use mathlib.Core.Bool.{Bool, true, false, cond, _&&_}
+use mathlib.Core.Bool.{Bool, true, false, cond}
 use mathlib.Core.List.{List, [], _∷_}
 use Prim.Native.Nat.{ℕ, zero, suc, _+_, _*_, _-_, _/_, _%_, _≤_, _<_}
 use native.Mathlib.Omega.{arith}
@@ -16,9 +16,8 @@ use Rattle.round.specs.Places.{candidateAt, entryAt, noEntry}
 use Rattle.round.specs.Sound.{SoundCandidate}
 use Rattle.round.proofs.Words.{and-fst, and-snd}
 use Rattle.round.proofs.Sound.{code-category}
-use Rattle.choice.proofs.Categories.{same-self, same-category}
+use Rattle.choice.proofs.Offers.{same-self, same-category}
 use Rattle.allotment.specs.Rows.{rowAt, rankIn, entryOf, sameEntry}
-use Rattle.allotment.proofs.Market.Tests.{is-false, clash}
 use Rattle.allotment.proofs.Market.Rows.{Row, Ranked, Rows}
 
 abbrev pub numberOf : ℕ → Category → ℕ

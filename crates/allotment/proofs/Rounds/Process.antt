@@ -1,33 +1,32 @@
 -- The process of document 01 is the market's: its turns lead from reached state to reached state, and it ends in the final one.
 use mathlib.Core.Path.{_≡_, refl, sym, _∙_, ap, subst⁻¹}
-use mathlib.Core.Bool.{Bool, true, false, cond, _&&_}
+use mathlib.Core.Bool.{Bool, true, false, cond}
 use mathlib.Core.Logic.{_⊎_, inl, inr}
 use mathlib.Core.List.{List, [], _∷_, map}
 use Prim.Native.Nat.{ℕ, zero, suc, _+_, _≤_, _<_}
 use native.Mathlib.Omega.{arith}
 use native.Mathlib.Decide.{decLt}
-use lib.Dec.{eqb, ltb}
 use lib.ListN.{length, getD, set, replicate, length-set, length-replicate, length-map, List·getD-map}
 use borrow.Author.Tests.{ltb-true, ltb-false, lt-ltb, le-ltb, ne-eqb}
 use Rattle.round.specs.Lists as Lists
 use Rattle.round.specs.Lists.{first}
-use Rattle.round.specs.Round.{Candidate, Round}
+use Rattle.round.specs.Round.{Round}
 use Rattle.round.specs.Places.{noCandidate}
 use Rattle.round.specs.Sound.{Sound}
 use Rattle.round.proofs.Words.{and-fst, and-snd, and-no, sumOf-front}
 use Rattle.allotment.specs.Rows.{rowAt}
-use Rattle.allotment.specs.Process.{Seat, noSeat, isNone, candidateCount, instituteCount, seatsAfter, mayOffer, turn, turns, entryTotal, tried, offersMade}
+use Rattle.allotment.specs.Process.{noSeat, isNone, candidateCount, seatsAfter, mayOffer, turn, turns, entryTotal, tried, offersMade}
 use Rattle.allotment.proofs.Market.Tests.{clash}
 use Rattle.allotment.proofs.Market.Sums.{sum, sum-le, sum-same}
-use Rattle.allotment.proofs.Market.Laws.{Held, Unheld}
-use Rattle.allotment.proofs.Market.Reached.{Reached, start, step, Served, Closed, Final, zeros, set-turned, turned-sum, reached-fits}
+use Rattle.allotment.proofs.Market.Laws.{Unheld}
+use Rattle.allotment.proofs.Market.Reached.{start, step, Served, Closed, Final, zeros, set-turned, turned-sum, reached-fits}
 use Rattle.allotment.proofs.Market.AnyOrder as AnyOrder
 use Rattle.allotment.proofs.Rounds.Numbered.{numberOf, rowBy, rowsOf}
-use Rattle.allotment.proofs.Rounds.First.{first-within, first-passes, first-before}
+use Rattle.allotment.proofs.Rounds.First.{first-passes, first-before}
 use Rattle.allotment.proofs.Rounds.Completed.{sum-is}
 use Rattle.allotment.proofs.Rounds.Institutes.{choiceOf}
 use Rattle.allotment.proofs.Rounds.Running.{stateOf, made, Running}
-use Rattle.allotment.proofs.Rounds.Seats.{Seated, Unseated, seat-of, stepIn}
+use Rattle.allotment.proofs.Rounds.Seats.{Seated, Unseated, seat-of}
 
 -- the sum of a list
 sum-listed : (l : List ℕ) → Lists.sum l ≡ Lists.sumOf (length l) (λ i. getD l i 0)

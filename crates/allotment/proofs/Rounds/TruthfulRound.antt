@@ -1,9 +1,9 @@
 -- No other row would have served a candidate of a sound round better.
-use mathlib.Core.Path.{_≡_, refl, sym, _∙_, ap, subst⁻¹, fun-ext}
-use mathlib.Core.Bool.{Bool, true, false, cond, _&&_}
+use mathlib.Core.Path.{_≡_, sym, _∙_, ap, subst⁻¹, fun-ext}
+use mathlib.Core.Bool.{true, cond, _&&_}
 use mathlib.Core.Logic.{_⊎_, inl, inr, _≢_}
 use mathlib.Core.List.{List, map}
-use Prim.Native.Nat.{ℕ, suc, _+_, _*_, _-_, _/_, _%_, _≤_, _<_}
+use Prim.Native.Nat.{ℕ, suc, _*_, _-_, _/_, _%_, _≤_, _<_}
 use native.Mathlib.Omega.{arith}
 use native.Mathlib.Decide.{decLt}
 use lib.Dec.{ltb}
@@ -15,9 +15,9 @@ use Rattle.round.specs.Round.{Candidate, Institute, Round}
 use Rattle.round.specs.Places.{candidateAt, instituteAt, stepAt, noCandidate, noInstitute}
 use Rattle.round.specs.Sound.{Sound}
 use Rattle.choice.proofs.Completion.{completion}
-use Rattle.allotment.specs.Rows.{rowAt, rankIn, entryOf, categoryAt}
+use Rattle.allotment.specs.Rows.{rowAt, rankIn, entryOf}
 use Rattle.allotment.specs.Offers.{candidateOn, placeOn}
-use Rattle.allotment.specs.Process.{Seat, noSeat, candidateCount, instituteCount, madeTo, tried, seats}
+use Rattle.allotment.specs.Process.{noSeat, candidateCount, instituteCount, madeTo, tried, seats}
 use Rattle.allotment.specs.Truthful.{standing}
 use Rattle.allotment.proofs.Market.Tests.{clash}
 use Rattle.allotment.proofs.Market.Laws.{Offers}
@@ -31,7 +31,7 @@ use Rattle.allotment.proofs.Rounds.Places.{meritLength}
 use Rattle.allotment.proofs.Rounds.Completed.{completed}
 use Rattle.allotment.proofs.Rounds.Institutes.{choiceOf, round-market}
 use Rattle.allotment.proofs.Rounds.Agreed.{step-number}
-use Rattle.allotment.proofs.Rounds.Running.{stateOf, held, Running, one-entry-held}
+use Rattle.allotment.proofs.Rounds.Running.{stateOf, held, one-entry-held}
 use Rattle.allotment.proofs.Rounds.Seats.{stepIn, Seated, Unseated, seat-of}
 use Rattle.allotment.proofs.Rounds.Process.{tried-running, tried-final}
 use Rattle.allotment.proofs.Rounds.Standing.{standing-at, standing-none, standing-seated}

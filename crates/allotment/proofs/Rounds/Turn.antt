@@ -1,13 +1,12 @@
 -- One turn: only the institute that gets the offer chooses anew, and what it holds with the new offer suffices.
 use mathlib.Core.Path.{_≡_, refl, sym, _∙_, ap, fun-ext}
-use mathlib.Core.Bool.{Bool, true, false, _&&_, _||_}
+use mathlib.Core.Bool.{true, _&&_, _||_}
 use mathlib.Core.Logic.{_≢_, _⊎_, inl, inr}
 use mathlib.Core.List.{List}
-use Prim.Native.Nat.{ℕ, suc, _-_, _≤_, _<_}
+use Prim.Native.Nat.{ℕ, suc, _-_, _<_}
 use native.Mathlib.Omega.{arith}
 use lib.Dec.{eqb, ltb}
-use lib.ListN.{length, getD, set}
-use lib.Seq.{getD-set-same, getD-set-other}
+use lib.ListN.{length, getD}
 use borrow.Author.Tests.{ltb-true, lt-ltb, eqb-true, eq-eqb}
 use Rattle.round.specs.declared.entry.Category.{Category}
 use Rattle.round.specs.declared.entry.Entry.{Entry}
@@ -15,13 +14,12 @@ use Rattle.round.specs.Round.{Round}
 use Rattle.round.specs.Places.{candidateAt, entryAt}
 use Rattle.round.specs.Sound.{Sound}
 use Rattle.round.proofs.Words.{and-fst, and-snd}
-use Rattle.choice.proofs.Categories.{same-self, same-category}
+use Rattle.choice.proofs.Offers.{same-self, same-category}
 use Rattle.allotment.specs.Rows.{rowAt, rankIn, entryOf, sameCategory}
 use Rattle.allotment.specs.Offers.{OfferSet, stepsOn}
 use Rattle.allotment.specs.Process.{candidateCount, instituteCount, madeTo, seatsAfter, mayOffer}
 use Rattle.allotment.specs.Stable.{given}
 use Rattle.allotment.proofs.Market.Tests.{or-case, or-right}
-use Rattle.allotment.proofs.Market.Laws.{Offers, _⊆_}
 use Rattle.allotment.proofs.Market.Update.{split-at}
 use Rattle.allotment.proofs.Market.Rows.{Ranked, offers-le}
 use Rattle.allotment.proofs.Market.Reached.{Turned, set-turned, turned-le}
@@ -30,7 +28,7 @@ use Rattle.allotment.proofs.Rounds.Numbered.{numberOf, number-same, ran
 use Rattle.allotment.proofs.Rounds.Completed.{completed}
 use Rattle.allotment.proofs.Rounds.Institutes.{round-market}
 use Rattle.allotment.proofs.Rounds.Agreed.{same-steps-on}
-use Rattle.allotment.proofs.Rounds.Running.{stateOf, made, held, made-to, held-at, Running, one-at, held-made}
+use Rattle.allotment.proofs.Rounds.Running.{stateOf, made, held, made-to, held-at, Running, one-at}
 use Rattle.allotment.proofs.Rounds.Process.{MayTurn, advanced, turn-running, may-offer}
 use Rattle.allotment.proofs.Rounds.Given.{same-test, given-held}
 
