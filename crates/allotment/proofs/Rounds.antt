@@ -11,3 +11,7 @@ pub mod Process
 pub mod Standing
 pub mod Given
 pub mod StableRound
+pub mod TruthfulRound
+pub mod Turn
+pub mod Bounds
+pub mod AnyOrder

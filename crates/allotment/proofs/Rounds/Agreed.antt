@@ -16,16 +16,14 @@ use Rattle.round.specs.Round.{StepRule, Round}
 use Rattle.round.specs.Places.{instituteAt, noStep}
 use Rattle.round.specs.Sound.{SoundInstitute}
 use Rattle.round.proofs.Words.{and-fst, and-snd}
-use Rattle.choice.specs.Choice.{choose}
 use Rattle.choice.proofs.Taking.{takingForUse}
-use Rattle.choice.proofs.Offers.{same, same-self, same-category}
+use Rattle.choice.proofs.Offers.{Alone, same-self, same-category}
 use Rattle.choice.proofs.Chosen.{takenUnder, choose-length, choose-number}
 use Rattle.choice.proofs.Below.{choose-below}
 use Rattle.choice.proofs.Agreement.{agreement, same-steps}
-use Rattle.choice.proofs.Offers.{Alone}
 use Rattle.allotment.specs.Rows.{sameCategory, categoryAt}
 use Rattle.allotment.specs.Offers.{OfferSet, candidateOn, placeOn, stepsOn, stepFor, takenFrom}
-use Rattle.allotment.proofs.Rounds.Places.{meritLength, place-within, candidate-at, candidate-below, place-of}
+use Rattle.allotment.proofs.Rounds.Places.{meritLength, candidate-below}
 use Rattle.allotment.proofs.Rounds.Completed.{marksOn, atPlaces, completedAt, completed, completed-on, completed-off, completed-here, lawful}
 
 eqb-sym : (a b : ℕ) → eqb a b ≡ eqb b a

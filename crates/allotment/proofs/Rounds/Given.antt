@@ -17,7 +17,6 @@ use Rattle.allotment.specs.Rows.{sameCategory, categoryAt}
 use Rattle.allotment.specs.Process.{Seat, noSeat, candidateCount, instituteCount, madeTo, seatsAfter}
 use Rattle.allotment.specs.Truthful.{isStep}
 use Rattle.allotment.specs.Stable.{given, stepOf}
-use Rattle.allotment.proofs.Market.Tests.{clash}
 use Rattle.allotment.proofs.Rounds.Numbered.{numberOf}
 use Rattle.allotment.proofs.Rounds.Agreed.{step-number}
 use Rattle.allotment.proofs.Rounds.Running.{held, Running}

@@ -1,33 +1,32 @@
 -- The process of document 01 is the market's: its turns lead from reached state to reached state, and it ends in the final one.
 use mathlib.Core.Path.{_≡_, refl, sym, _∙_, ap, subst⁻¹}
-use mathlib.Core.Bool.{Bool, true, false, cond, _&&_}
+use mathlib.Core.Bool.{Bool, true, false, cond}
 use mathlib.Core.Logic.{_⊎_, inl, inr}
 use mathlib.Core.List.{List, [], _∷_, map}
 use Prim.Native.Nat.{ℕ, zero, suc, _+_, _≤_, _<_}
 use native.Mathlib.Omega.{arith}
 use native.Mathlib.Decide.{decLt}
-use lib.Dec.{eqb, ltb}
 use lib.ListN.{length, getD, set, replicate, length-set, length-replicate, length-map, List·getD-map}
 use borrow.Author.Tests.{ltb-true, ltb-false, lt-ltb, le-ltb, ne-eqb}
 use Rattle.round.specs.Lists as Lists
 use Rattle.round.specs.Lists.{first}
-use Rattle.round.specs.Round.{Candidate, Round}
+use Rattle.round.specs.Round.{Round}
 use Rattle.round.specs.Places.{noCandidate}
 use Rattle.round.specs.Sound.{Sound}
 use Rattle.round.proofs.Words.{and-fst, and-snd, and-no, sumOf-front}
 use Rattle.allotment.specs.Rows.{rowAt}
-use Rattle.allotment.specs.Process.{Seat, noSeat, isNone, candidateCount, instituteCount, seatsAfter, mayOffer, turn, turns, entryTotal, tried, offersMade}
+use Rattle.allotment.specs.Process.{noSeat, isNone, candidateCount, seatsAfter, mayOffer, turn, turns, entryTotal, tried, offersMade}
 use Rattle.allotment.proofs.Market.Tests.{clash}
 use Rattle.allotment.proofs.Market.Sums.{sum, sum-le, sum-same}
-use Rattle.allotment.proofs.Market.Laws.{Held, Unheld}
-use Rattle.allotment.proofs.Market.Reached.{Reached, start, step, Served, Closed, Final, zeros, set-turned, turned-sum, reached-fits}
+use Rattle.allotment.proofs.Market.Laws.{Unheld}
+use Rattle.allotment.proofs.Market.Reached.{start, step, Served, Closed, Final, zeros, set-turned, turned-sum, reached-fits}
 use Rattle.allotment.proofs.Market.AnyOrder as AnyOrder
-use Rattle.allotment.proofs.Rounds.Numbered.{numberOf, rowsOf}
-use Rattle.allotment.proofs.Rounds.First.{first-within, first-passes, first-before}
+use Rattle.allotment.proofs.Rounds.Numbered.{numberOf, rowBy, rowsOf}
+use Rattle.allotment.proofs.Rounds.First.{first-passes, first-before}
 use Rattle.allotment.proofs.Rounds.Completed.{sum-is}
 use Rattle.allotment.proofs.Rounds.Institutes.{choiceOf}
 use Rattle.allotment.proofs.Rounds.Running.{stateOf, made, Running}
-use Rattle.allotment.proofs.Rounds.Seats.{Seated, Unseated, seat-of, stepIn}
+use Rattle.allotment.proofs.Rounds.Seats.{Seated, Unseated, seat-of}
 
 -- the sum of a list
 sum-listed : (l : List ℕ) → Lists.sum l ≡ Lists.sumOf (length l) (λ i. getD l i 0)
@@ -39,7 +38,7 @@ sum-of l = sum-listed l ∙ sym (sum-is (length l) (stateOf l))
 
 module _ (r : Round) where
   pub entries : entryTotal r ≡ sum (candidateCount r) (λ i. rowsOf r i .len)
-  unfolding rowsOf
+  unfolding rowBy
   entries =
       let lengths : List ℕ = map (λ c. length (c .row)) (r .candidates) in
       sum-of lengths
@@ -98,7 +97,7 @@ turns-still r (suc k) state e = ap (turns r k) e ∙ turns-still r k state e
 module _ {types : ℕ} {r : Round} (sound : Sound types r) where
   -- who may offer has a turn
   pub may-offer : {state : List ℕ} → Running r state → (i : ℕ) → i < candidateCount r → mayOffer r state (seatsAfter r state) i ≡ true → MayTurn r state i
-  unfolding mayOffer rowsOf
+  unfolding mayOffer rowBy
   may-offer {state} run i hi t = go (seat-of sound run i hi)
     where
       go : Seated r state i ⊎ Unseated r state i → MayTurn r state i
@@ -112,7 +111,7 @@ module _ {types : ℕ} {r : Round} (sound : Sound types r) where
   -- who may not offer is served
   pub not-offer : {state : List ℕ} → Running r state → (i : ℕ) → i < candidateCount r → mayOffer r state (seatsAfter r state) i ≡ false
       → Served (choiceOf r) (rowsOf r) (stateOf state) i
-  unfolding mayOffer rowsOf
+  unfolding mayOffer rowBy
   not-offer {state} run i hi f = go (seat-of sound run i hi)
     where
       go : Seated r state i ⊎ Unseated r state i → Served (choiceOf r) (rowsOf r) (stateOf state) i
