@@ -1,5 +1,6 @@
 // The allotment of a round.
 pub mod clearing;
+pub mod closing;
 
 // The answer of a call: the number of offers, or the number of the refusal with its byte.
 pub enum Answer {

@@ -1,48 +1,82 @@
--- A closing place as it is found by going down the merit list: the last place so far that is seated at the step.
-use Prim.Native.Nat.{ℕ, zero, suc, _≤_, max}
-use mathlib.Core.Path.{_≡_, refl}
+-- A closing place as it is found by going down the merit list: the largest so far of the places that are seated at the step.
+use Prim.Native.Nat.{ℕ, suc, _+_, _-_, _<_, _≤_, max}
+use mathlib.Core.Path.{_≡_, refl, sym, ap, _∙_}
 use mathlib.Core.Bool.{Bool, true, false, cond}
 use mathlib.Core.List.{List}
 use native.Mathlib.Omega.{arith}
+use native.Mathlib.Numerals.{add-one}
 use lib.ListN.{length, getD}
 use Rattle.choice.specs.Use.{greatest}
+use Rattle.round.specs.Records.{headOf}
+use Rattle.round.specs.Reading.{roundOf}
 use Rattle.round.specs.Round.{Round}
-use Rattle.round.specs.Places.{instituteAt}
+use Rattle.round.specs.Places.{instituteAt, meritAt}
+use Rattle.round.specs.Sound.{SoundInstitute, Sound}
+use Rattle.round.proofs.Sound.{sound, length-candidates, length-institutes}
+use Rattle.round.proofs.Words.{tabulate-at, cond-yes, cond-no}
 use Rattle.allotment.specs.Offers.{candidateOn}
 use Rattle.allotment.specs.Process.{Seat, noSeat}
 use Rattle.allotment.specs.Areas.{seatIs, closingPlace}
-
--- the candidate at place p of institute j's list is seated there at step k
-abbrev pub seatedAt : Round → List Seat → ℕ → ℕ → ℕ → Bool
-seatedAt r list j k p = seatIs (getD list (candidateOn r j p) noSeat) (suc j) k
+use Rattle.allotment.specs.Writing.{seatHeld, seatsHeld, seatedPlace, ClosingKnown}
+use Rattle.allotment.proofs.Rounds.Bounds.{merit-short}
 
 -- the closing place by the first p places
 unfoldable pub closingTo : Round → List Seat → ℕ → ℕ → ℕ → ℕ
-closingTo r list j k p = greatest p (λ p. cond (seatedAt r list j k p) (suc p) 0)
+closingTo r list j k p = greatest p (seatedPlace r list j k)
 
 module _ (r : Round) (list : List Seat) (j k : ℕ) where
-  pub closing-start : closingTo r list j k 0 ≡ 0
+  pub closing-start : 0 ≡ closingTo r list j k 0
   unfolding closingTo greatest
   closing-start = refl
 
-  pub closing-most : (p : ℕ) → closingTo r list j k p ≤ p
-  unfolding closingTo greatest
-  closing-most zero = omega arith
-  closing-most (suc p) = go (seatedAt r list j k p) (closingTo r list j k p) (closing-most p)
-    where
-      go : (b : Bool) (before : ℕ) → before ≤ p → max (cond b (suc p) 0) before ≤ suc p
-      go true before l = omega arith
-      go false before l = omega arith
-
   -- one place more
-  pub closing-seated : (p : ℕ) → seatedAt r list j k p ≡ true → closingTo r list j k (suc p) ≡ suc p
+  pub closing-more : (p : ℕ) {last place next : ℕ} → last ≡ closingTo r list j k p → place ≡ seatedPlace r list j k p → next ≡ max last place
+      → next ≡ closingTo r list j k (p + 1)
   unfolding closingTo greatest
-  closing-seated p e = rw e (omega (arith, closing-most p))
+  closing-more p e f g = rw add-one (omega arith)
 
-  pub closing-passed : (p : ℕ) → seatedAt r list j k p ≡ false → closingTo r list j k (suc p) ≡ closingTo r list j k p
-  unfolding closingTo greatest
-  closing-passed p e = rw e (omega arith)
+  pub closing-done : {count p last : ℕ} → count ≡ length (instituteAt r j .merit) → p ≤ count → count ≤ p → last ≡ closingTo r list j k p
+      → last ≡ closingPlace r list j k
+  unfolding closingTo closingPlace seatedPlace
+  closing-done {count} {p} e l m f =
+      let q : p ≡ length (instituteAt r j .merit) = omega arith in
+      f ∙ ap (λ (n : ℕ). greatest n (seatedPlace r list j k)) q
 
-  pub closing-done : closingTo r list j k (length (instituteAt r j .merit)) ≡ closingPlace r list j k
-  unfolding closingTo closingPlace
-  closing-done = refl
+-- the seat that two arrays hold for a candidate stands in the list that they hold
+pub held-at : (holders steps : List ℕ) (i : ℕ) → i < length holders → getD (seatsHeld holders steps) i noSeat ≡ seatHeld holders steps i
+unfolding seatsHeld
+held-at holders steps i l = tabulate-at (length holders) (seatHeld holders steps) noSeat i l
+
+-- what stands on the merit list of an institute of an accepted file
+module _ (file merits holders steps : List ℕ) (j : ℕ) (known : ClosingKnown file merits holders steps) (below : j < headOf file .institutes) where
+  listing : SoundInstitute (length (roundOf file .candidates)) (headOf file .types) (instituteAt (roundOf file) j)
+  listing = sound file (known .accepted) .institute j (omega (arith, length-institutes file))
+
+  pub merit-least : (p : ℕ) → p < length (instituteAt (roundOf file) j .merit) → 1 ≤ meritAt (instituteAt (roundOf file) j) p
+  merit-least p l = listing .merit-from p l
+
+  pub merit-held : (p : ℕ) → p < length (instituteAt (roundOf file) j .merit)
+      → (candidateOn (roundOf file) j p < length holders) × (candidateOn (roundOf file) j p < length steps)
+  merit-held p l = omega (arith, listing .merit-from p l, listing .merit-to p l, length-candidates file, known .holders-many, known .steps-many)
+
+  pub merit-few : length (instituteAt (roundOf file) j .merit) ≤ 512
+  merit-few =
+      omega (arith, merit-short (roundOf file) j listing, sound file (known .accepted) .candidates-most)
+
+  seat-there : (k p : ℕ) {number : ℕ} {b : Bool} → p < length (instituteAt (roundOf file) j .merit)
+      → number ≡ meritAt (instituteAt (roundOf file) j) p → b ≡ seatIs (seatHeld holders steps (number - 1)) (j + 1) k
+      → seatIs (getD (seatsHeld holders steps) (candidateOn (roundOf file) j p) noSeat) (suc j) k ≡ b
+  seat-there k p l e f =
+      rw (held-at holders steps (candidateOn (roundOf file) j p) (merit-held p l .0), ← add-one j, ← e) (sym f)
+
+  pub place-seated : (k p : ℕ) {number : ℕ} {b : Bool} → p < length (instituteAt (roundOf file) j .merit)
+      → number ≡ meritAt (instituteAt (roundOf file) j) p → b ≡ seatIs (seatHeld holders steps (number - 1)) (j + 1) k
+      → b ≡ true → p + 1 ≡ seatedPlace (roundOf file) (seatsHeld holders steps) j k p
+  unfolding seatedPlace
+  place-seated k p l e f t = cond-yes (suc p) 0 (seat-there k p l e f ∙ t) (add-one p)
+
+  pub place-empty : (k p : ℕ) {number : ℕ} {b : Bool} → p < length (instituteAt (roundOf file) j .merit)
+      → number ≡ meritAt (instituteAt (roundOf file) j) p → b ≡ seatIs (seatHeld holders steps (number - 1)) (j + 1) k
+      → b ≡ false → 0 ≡ seatedPlace (roundOf file) (seatsHeld holders steps) j k p
+  unfolding seatedPlace
+  place-empty k p l e f t = cond-no (suc p) 0 (seat-there k p l e f ∙ t) refl
