@@ -9,3 +9,5 @@ pub mod Returns
 pub mod Written
 pub mod Kept
 pub mod Closing
+pub mod Putting
+pub mod Answering

@@ -1,4 +1,5 @@
 // The allotment of a round.
+pub mod areas;
 pub mod clearing;
 pub mod closing;
 

@@ -8,7 +8,7 @@ use lib.Seq.{getD-append-add, ext-getD}
 use Rattle.round.specs.Lists.{tabulate}
 use Rattle.round.specs.Round.{Round}
 use Rattle.round.proofs.Words.{length-tabulate, tabulate-at}
-use Rattle.allotment.specs.Process.{noSeat, candidateCount, instituteCount, seatsAfter, seats}
+use Rattle.allotment.specs.Process.{Seat, noSeat, candidateCount, instituteCount, seatsAfter, seats}
 use Rattle.allotment.specs.Areas.{joined, wordBytes, seatBytes, closingPlace, closingBytes, answerBytes, answerSize, seatIn, seatsIn}
 use Rattle.allotment.proofs.Files.Pieces.{length-pieces, getD-pieces}
 
@@ -31,13 +31,13 @@ module _ (r : Round) where
   unfolding seatPart
   length-seatPart = length-pieces 2 (λ i. seatBytes (getD (seats r) i noSeat)) (λ i. refl) (candidateCount r)
 
-  pub length-closing : (j : ℕ) → length (closingBytes r (seats r) j) ≡ 12
+  pub length-closing : (list : List Seat) (j : ℕ) → length (closingBytes r list j) ≡ 12
   unfolding closingBytes
-  length-closing j = length-pieces 2 (λ k. wordBytes (closingPlace r (seats r) j (suc k))) (λ k. refl) 6
+  length-closing list j = length-pieces 2 (λ k. wordBytes (closingPlace r list j (suc k))) (λ k. refl) 6
 
   length-closingPart : length closingPart ≡ 12 * instituteCount r
   unfolding closingPart
-  length-closingPart = length-pieces 12 (closingBytes r (seats r)) length-closing (instituteCount r)
+  length-closingPart = length-pieces 12 (closingBytes r (seats r)) (length-closing (seats r)) (instituteCount r)
 
   pub length-answer : length (answerBytes r) ≡ answerSize r
   length-answer = rw answer-parts (omega (arith, length-append seatPart closingPart, length-seatPart, length-closingPart))
@@ -62,7 +62,7 @@ module _ (r : Round) where
   unfolding closingPart
   answer-closing j b l m =
       rw (answer-parts, ← length-seatPart)
-      (getD-append-add seatPart closingPart (12 * j + b) 0 ∙ getD-pieces 12 (closingBytes r (seats r)) length-closing (instituteCount r) j b l m)
+      (getD-append-add seatPart closingPart (12 * j + b) 0 ∙ getD-pieces 12 (closingBytes r (seats r)) (length-closing (seats r)) (instituteCount r) j b l m)
 
   closing-byte : (j k b : ℕ) → j < instituteCount r → k < 6 → b < 2
       → getD (answerBytes r) (2 * candidateCount r + (12 * j + (2 * k + b))) 0 ≡ getD (wordBytes (closingPlace r (seats r) j (suc k))) b 0

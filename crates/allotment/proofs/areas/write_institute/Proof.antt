@@ -1,0 +1,84 @@
+-- The six closing places of an institute are stored, two bytes each. The invariant: the area with the places passed put in.
+-- Assumes nothing.
+use borrow.Author.Needs.{needs}
+use Prim.Native.Nat.{_≤_, _-_}
+use mathlib.Core.Path.{_≡_, refl, _∙_}
+use native.Mathlib.Omega.{arith}
+use denote.Ref.{now}
+use lib.ListN.{length}
+use lib.Seq.{sets}
+use Rattle.round.specs.Lists.{tabulate}
+use Rattle.round.specs.Reading.{roundOf}
+use Rattle.allotment.specs.Areas.{joined}
+use Rattle.allotment.specs.Writing.{seatsHeld}
+use Rattle.allotment.proofs.Files.Putting.{closingPieces, closing-put, closings-put}
+use Rattle.allotment.proofs.areas.write_institute.Statement.{statement}
+use Rattle.allotment.proofs.areas.write_institute.Tie as tie
+
+abbrev Inv-loop : tie.InvT-loop
+Inv-loop file merits holders steps j area₀ at k₀ area k = (k ≤ 6) × (length area ≡ length area₀) × (area ≡ sets area₀ at (joined (tabulate k (closingPieces (roundOf file) (seatsHeld holders steps) j))))
+
+abbrev μ-loop : tie.MeasureT-loop
+μ-loop file merits holders steps j area₀ at k₀ area k = 6 - k
+
+loop-holds : tie.Need-loop-holds Inv-loop μ-loop
+loop-holds c = (omega arith, refl, refl)
+
+add-closing-place : tie.Need-add-closing-place Inv-loop μ-loop
+add-closing-place c = search needs
+
+closing-place-requires : tie.Need-closing-place-requires Inv-loop μ-loop
+closing-place-requires c κs = search needs
+
+mul-write-word : tie.Need-mul-write-word Inv-loop μ-loop
+mul-write-word c = search needs
+
+add-write-word : tie.Need-add-write-word Inv-loop μ-loop
+add-write-word c = search needs
+
+write-word-requires : tie.Need-write-word-requires Inv-loop μ-loop
+write-word-requires c κs = search needs
+
+add-k : tie.Need-add-k Inv-loop μ-loop
+add-k c = search needs
+
+loop-less : tie.Need-loop-less Inv-loop μ-loop
+loop-less c = search needs
+
+loop-again : tie.Need-loop-again Inv-loop μ-loop
+loop-again c =
+    let a = c .before .before .before .before .before .before .before .before .before .before .before .before .args in
+    let l = c .before .before .before .before .before .before .loop in (
+      omega arith,
+      c .before .before .write-word .kept .0 ∙ l .inv .1,
+      closing-put (roundOf (now (a .file))) (seatsHeld (now (a .holders)) (now (a .steps))) (a .j) (now (a .area)) (a .at) (l .k)
+          (l .inv .2) (c .before .before .before .before .closing-place .ensures) (c .before .before .write-word .ensures),
+    )
+
+same-length : tie.Need-same-length Inv-loop μ-loop
+same-length c = search needs
+
+returns : tie.Need-returns Inv-loop μ-loop
+returns c =
+    let a = c .before .before .before .before .before .before .before .args in
+    let l = c .before .loop in
+    closings-put (roundOf (now (a .file))) (seatsHeld (now (a .holders)) (now (a .steps))) (a .j) (now (a .area)) (a .at)
+    (l .inv .0) (c .loop-test .left) (l .inv .2)
+
+pub write-institute-spec : {M : Type 1} → statement M
+write-institute-spec =
+    tie.close
+    (tie.spec
+    Inv-loop
+    μ-loop
+    loop-holds
+    add-closing-place
+    closing-place-requires
+    mul-write-word
+    add-write-word
+    write-word-requires
+    add-k
+    loop-less
+    loop-again
+    same-length
+    returns)
