@@ -3,3 +3,4 @@ pub mod Rounds
 pub mod Starred
 pub mod Files
 pub mod Promise
+pub mod Calling

@@ -8,3 +8,4 @@ pub mod Stable
 pub mod Promise
 pub mod Held
 pub mod Writing
+pub mod Handing

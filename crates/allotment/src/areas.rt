@@ -8,11 +8,10 @@ ghost use lib.ListN.{length, drop};
 ghost use lib.Seq.{sets};
 ghost use Rattle.round.specs.Lists.{tabulate};
 ghost use Rattle.round.specs.Records.{headOf};
-ghost use Rattle.round.specs.Read.{asHead};
 ghost use Rattle.round.specs.Reading.{roundOf};
 ghost use Rattle.allotment.specs.Process.{seats};
 ghost use Rattle.allotment.specs.Areas.{joined, wordBytes, closingBytes, answerBytes, answerSize};
-ghost use Rattle.allotment.specs.Held.{HeldIn};
+ghost use Rattle.allotment.specs.Held.{AtHand, HeldIn};
 ghost use Rattle.allotment.specs.Writing.{seatsHeld, heldBytes, ClosingKnown};
 
 // A two-byte number, little-endian.
@@ -84,13 +83,13 @@ fn write_closings(
 pub fn write_answer(
     file: &[u8],
     h: Head,
+    candidates: &[usize],
     merits: &[usize],
     holders: &[u8],
     steps: &[u8],
     answer: &mut [u8],
 )
-    requires { ⌜ ClosingKnown (now file) (now merits) (now holders) (now steps) ⌝ }
-    requires { ⌜ asHead h ≡ headOf (now file) ⌝ }
+    requires { ⌜ AtHand (now file) h (now candidates) (now merits) ⌝ }
     requires { ⌜ HeldIn (seats (roundOf (now file))) (now holders) (now steps) ⌝ }
     requires { ⌜ answerSize (roundOf (now file)) ≤ length (now answer) ⌝ }
     ensures { λ _. ⌜ now (answer .exit)

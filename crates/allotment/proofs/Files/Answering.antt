@@ -7,11 +7,14 @@ use lib.ListN.{length, getD, drop}
 use lib.Seq.{sets, ext-getD}
 use Rattle.round.specs.Lists.{tabulate}
 use Rattle.round.specs.Round.{Round}
+use Rattle.round.specs.declared.head.Head.{Head as CodeHead}
+use Rattle.round.specs.Reading.{roundOf}
 use Rattle.round.proofs.Words.{length-tabulate}
+use Rattle.round.proofs.Sound.{length-candidates}
 use Rattle.allotment.specs.Process.{Seat, noSeat, candidateCount, instituteCount, seats}
 use Rattle.allotment.specs.Areas.{joined, seatBytes, closingBytes, answerBytes, answerSize}
-use Rattle.allotment.specs.Held.{HeldIn}
-use Rattle.allotment.specs.Writing.{seatHeld, seatsHeld, heldBytes}
+use Rattle.allotment.specs.Held.{AtHand, HeldIn}
+use Rattle.allotment.specs.Writing.{seatHeld, seatsHeld, heldBytes, ClosingKnown}
 use Rattle.allotment.proofs.Files.Pieces.{length-pieces}
 use Rattle.allotment.proofs.Files.AreaSeats.{length-seats, length-answer}
 use Rattle.allotment.proofs.Files.Closing.{held-at}
@@ -56,3 +59,13 @@ module _ (r : Round) (holders steps : List ℕ) (held : HeldIn (seats r) holders
       second
       ∙ (rw (first, e, ← at) whole
       ∙ (sets-front area (answerBytes r) (omega (arith, length-answer r)) ∙ rw (length-answer r)))
+
+-- the closing places can be found where two arrays hold the list
+pub closing-known : (file : List ℕ) (h : CodeHead) {candidates merits holders steps : List ℕ} → AtHand file h candidates merits
+    → HeldIn (seats (roundOf file)) holders steps → ClosingKnown file merits holders steps
+closing-known file h hand held = record {
+  accepted = hand .passing;
+  table = hand .merit-starts;
+  holders-many = held .holders-many ∙ (length-seats (roundOf file) ∙ length-candidates file);
+  steps-many = held .steps-many ∙ (length-seats (roundOf file) ∙ length-candidates file);
+}

@@ -1,0 +1,77 @@
+-- What the public call knows: of a round that was read, of the sizes that question 14 asks for, and at each of its returns.
+use Prim.Native.Nat.{ℕ, _+_, _*_, _<_, _≤_}
+use mathlib.Core.Path.{_≡_, sym, ap, _∙_}
+use mathlib.Core.List.{List, _++_}
+use native.Mathlib.Omega.{arith}
+use lib.ListN.{length, drop, replicate}
+use Rattle.round.specs.declared.head.Head.{Head as CodeHead}
+use Rattle.round.specs.declared.reader.Reading.{Reading}
+use Rattle.round.specs.declared.reader.Reading.the-variants.{Read}
+use Rattle.round.specs.declared.reader.Reading.the-variants.{Refused as ReadingRefused}
+use Rattle.round.specs.Records.{Head}
+use Rattle.round.specs.Outcome.{verdictOf, RoundRead}
+use Rattle.round.specs.Reading.{roundOf}
+use Rattle.round.proofs.Sound.{sound, length-candidates, length-institutes}
+use Rattle.allotment.specs.declared.Answer.{Answer}
+use Rattle.allotment.specs.declared.Answer.the-variants.{Allotted, Refused}
+use Rattle.allotment.specs.Process.{candidateCount, instituteCount, offersMade}
+use Rattle.allotment.specs.Areas.{answerBytes, answerSize, workSize}
+use Rattle.allotment.specs.Promise.{Promise}
+use Rattle.allotment.specs.Held.{AtHand}
+use Rattle.allotment.specs.Handing.{handedUp}
+use Rattle.allotment.proofs.Promise.{promise-refused, promise-answer-small, promise-work-small, promise-allotted}
+
+-- a round that was read
+module _ (file : List ℕ) (h : CodeHead) (candidates merits : List ℕ) (hand : AtHand file h candidates merits) where
+  candidates-many : candidateCount (roundOf file) ≡ h .candidates
+  candidates-many = length-candidates file ∙ sym (ap (λ (k : Head). k .candidates) (hand .head))
+
+  institutes-many : instituteCount (roundOf file) ≡ h .institutes
+  institutes-many = length-institutes file ∙ sym (ap (λ (k : Head). k .institutes) (hand .head))
+
+  pub few : (h .candidates ≤ 512) × (h .institutes ≤ 32)
+  few =
+      let s = sound file (hand .passing) in
+      omega (arith, candidates-many, institutes-many, s .candidates-most, s .institutes-most)
+
+  -- the sizes that question 14 asks for
+  pub answer-size : answerSize (roundOf file) ≡ 2 * h .candidates + 12 * h .institutes
+  answer-size = omega (arith, candidates-many, institutes-many)
+
+  pub work-size : workSize (roundOf file) ≡ 8 * h .candidates
+  work-size = omega (arith, candidates-many)
+
+  module _ (answer work : List ℕ) where
+    pub answer-small : length answer < 2 * h .candidates + 12 * h .institutes → Promise file answer work (Refused 14 0) answer work
+    answer-small l = promise-answer-small file answer work (hand .passing) (omega (arith, answer-size))
+
+    pub work-small : length work < 8 * h .candidates → Promise file answer work (Refused 14 0) answer work
+    work-small l = promise-work-small file answer work (hand .passing) (omega (arith, work-size))
+
+    pub all-well : {offers : ℕ} {answerNow workNow : List ℕ} → 2 * h .candidates + 12 * h .institutes ≤ length answer → 8 * h .candidates ≤ length work
+        → offers ≡ offersMade (roundOf file)
+        → answerNow ≡ answerBytes (roundOf file) ++ drop (answerSize (roundOf file)) answer
+        → workNow ≡ replicate (8 * h .candidates) 0 ++ drop (8 * h .candidates) work
+        → Promise file answer work (Allotted offers) answerNow workNow
+    all-well {offers} {answerNow} {workNow} l m told seen cleared =
+        rw told
+        (promise-allotted file answer work (hand .passing) (omega (arith, answer-size)) (omega (arith, work-size)) answerNow workNow seen
+        (rw work-size cleared))
+
+-- a file that was asked about
+module _ (file : List ℕ) {got : Reading} {candidates₀ candidates merits₀ merits : List ℕ} (asked : RoundRead file got candidates₀ candidates merits₀ merits) where
+  -- it is refused
+  pub handed-refused : (answer work : List ℕ) {result : Answer} {number offset : ℕ} → result ≡ handedUp got → got ≡ ReadingRefused number offset
+      → Promise file answer work result answer work
+  handed-refused answer work {result} {number} {offset} e told =
+      let result-is : result ≡ Refused number offset = e ∙ ap handedUp told in
+      rw result-is (promise-refused file answer work number offset (sym (asked .answer) ∙ ap verdictOf told))
+
+  -- it is read
+  pub at-hand : {h : CodeHead} → got ≡ Read h → AtHand file h candidates merits
+  at-hand {h} told = record {
+    passing = sym (asked .answer) ∙ ap verdictOf told;
+    head = asked .head h told;
+    candidate-starts = asked .candidate-starts h told;
+    merit-starts = asked .merit-starts h told;
+  }
