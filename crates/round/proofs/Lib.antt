@@ -6,3 +6,6 @@ pub mod Seen
 pub mod Found
 pub mod Run
 pub mod Rest
+pub mod Prefix
+pub mod Bodies
+pub mod Codes

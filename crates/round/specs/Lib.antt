@@ -10,3 +10,4 @@ pub mod Sound
 pub mod Read
 pub mod Parts
 pub mod Outcome
+pub mod Access

@@ -1,6 +1,6 @@
 // Entries: an institute together with a category.
 ghost use mathlib.Core.Path.{_≡_};
-ghost use Rattle.round.specs.Category.{codeOf, codedBy};
+ghost use Rattle.round.specs.Category.{codeOf, categoryOf, codedBy};
 
 // The five categories; `Open` of a candidate is the general category.
 pub enum Category {
@@ -48,4 +48,15 @@ pub fn coded_by(code: u8) -> Coded
         4 => Coded::Known(Category::EWS),
         _ => Coded::Unknown,
     }
+}
+
+// The category of a code that stands in an accepted file; open for a number that is no code.
+pub fn category_of(code: u8) -> Category
+    ensures { λ r. ⌜ r ≡ categoryOf code ⌝ }
+{
+    let got = coded_by(code);
+    let Coded::Known(category) = got else {
+        return Category::Open;
+    };
+    category
 }

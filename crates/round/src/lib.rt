@@ -1,4 +1,5 @@
 // What a round file holds, and its reader.
+pub mod access;
 pub mod candidate;
 pub mod entry;
 pub mod head;

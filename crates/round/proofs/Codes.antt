@@ -1,0 +1,32 @@
+-- What a code byte stands for, by the code's own tests.
+use Prim.Native.Nat.{ℕ, _<_}
+use mathlib.Core.Path.{_≡_, refl, sym, ap, _∙_}
+use mathlib.Core.Bool.{Bool, true, false, cond}
+use native.Mathlib.Omega.{arith}
+use borrow.Author.Tests.{leb-false, ne-eqb}
+use lib.Dec.{leb, eqb}
+use Rattle.round.specs.declared.entry.Category.{Category}
+use Rattle.round.specs.declared.entry.Category.the-variants.{Open}
+use Rattle.round.specs.declared.entry.Coded.{Coded}
+use Rattle.round.specs.declared.entry.Coded.the-variants.{Known, Unknown}
+use Rattle.round.specs.Category.{categoryOf, codedBy}
+
+-- a number that stands for nothing counts as open
+pub unknown-open : (code : ℕ) → codedBy code ≡ Unknown → Open ≡ categoryOf code
+unknown-open code e = go (leb code 4) refl e
+  where
+    clash : Known (categoryOf code) ≡ Unknown → ⊥
+    clash e = let z : _≡_ {A = ℕ} 0 1 = cc in omega arith
+
+    go : (b : Bool) → leb code 4 ≡ b → cond b (Known (categoryOf code)) Unknown ≡ Unknown → Open ≡ categoryOf code
+    go true q e = absurd (clash e)
+    go false q e =
+        let above : 4 < code = leb-false code 4 q in
+        rw (ne-eqb code 1 (λ z. omega arith), ne-eqb code 2 (λ z. omega arith), ne-eqb code 3 (λ z. omega arith), ne-eqb code 4 (λ z. omega arith))
+
+pub known-category : (code : ℕ) (category : Category) → codedBy code ≡ Known category → category ≡ categoryOf code
+known-category code category e = go (leb code 4) e
+  where
+    go : (b : Bool) → cond b (Known (categoryOf code)) Unknown ≡ Known category → category ≡ categoryOf code
+    go true e = cc
+    go false e = cc

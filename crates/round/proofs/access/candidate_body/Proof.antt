@@ -1,0 +1,20 @@
+use Rattle.round.proofs.Bodies.{candidate-there, candidate-read}
+use borrow.Author.Needs.{needs}
+use Rattle.round.proofs.access.candidate_body.Statement.{statement}
+use Rattle.round.proofs.access.candidate_body.Tie as tie
+
+mul-body-at : tie.Need-mul-body-at
+mul-body-at c = search needs
+
+shared-slice-read-body-at : tie.Need-shared-slice-read-body-at
+shared-slice-read-body-at c = search needs
+
+body-at-requires : tie.Need-body-at-requires
+body-at-requires c κs = candidate-there _ _ _ (c .before .before .before .pre)
+
+returns : tie.Need-returns
+returns c = candidate-read _ _ _ (c .before .before .before .before .pre) (c .body-at .ensures)
+
+pub candidate-body-spec : {M : Type 1} → statement M
+candidate-body-spec =
+    tie.close (tie.spec mul-body-at shared-slice-read-body-at body-at-requires returns)

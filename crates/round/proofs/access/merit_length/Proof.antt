@@ -1,0 +1,14 @@
+use mathlib.Core.Path.{sym}
+use Rattle.round.proofs.Bodies.{list-length}
+use borrow.Author.Needs.{needs}
+use Rattle.round.proofs.access.merit_length.Statement.{statement}
+use Rattle.round.proofs.access.merit_length.Tie as tie
+
+merit-body-requires : tie.Need-merit-body-requires
+merit-body-requires c κs = search needs
+
+returns : tie.Need-returns
+returns c = sym (list-length _ _ (c .merit-body .ensures))
+
+pub merit-length-spec : {M : Type 1} → statement M
+merit-length-spec = tie.close (tie.spec merit-body-requires returns)

@@ -1,0 +1,24 @@
+use mathlib.Core.Path.{_≡_, refl, sym, _∙_}
+use Rattle.round.proofs.Codes.{unknown-open, known-category}
+use borrow.Author.Needs.{needs}
+use Rattle.round.proofs.entry.category_of.Statement.{statement}
+use Rattle.round.proofs.entry.category_of.Tie as tie
+
+coded-by-requires : tie.Need-coded-by-requires
+coded-by-requires c κs = search needs
+
+enum-known-got : tie.Need-enum-known-got
+enum-known-got c = search needs
+
+enum-told : tie.Need-enum-told
+enum-told c = search needs
+
+returns : tie.Need-returns
+returns c = unknown-open (c .before .before .before .args .code) (sym (c .before .before .coded-by .ensures) ∙ c .enum-told .given .1)
+
+returns-2 : tie.Need-returns-2
+returns-2 c = known-category (c .before .before .before .before .args .code) (c .before .got .given .0 .0) (sym (c .before .before .before .coded-by .ensures) ∙ c .before .got .given .1)
+
+pub category-of-spec : {M : Type 1} → statement M
+category-of-spec =
+    tie.close (tie.spec coded-by-requires enum-known-got enum-told returns returns-2)
