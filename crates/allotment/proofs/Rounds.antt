@@ -7,6 +7,7 @@ pub mod Institutes
 pub mod Agreed
 pub mod Running
 pub mod Seats
+pub mod Counted
 pub mod Process
 pub mod Standing
 pub mod Given
@@ -15,3 +16,4 @@ pub mod TruthfulRound
 pub mod Turn
 pub mod Bounds
 pub mod AnyOrder
+pub mod Reseated
