@@ -7,7 +7,13 @@ pub mod Institutes
 pub mod Agreed
 pub mod Running
 pub mod Seats
+pub mod Counted
 pub mod Process
 pub mod Standing
 pub mod Given
 pub mod StableRound
+pub mod TruthfulRound
+pub mod Turn
+pub mod Bounds
+pub mod AnyOrder
+pub mod Reseated

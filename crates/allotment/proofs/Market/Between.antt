@@ -26,7 +26,7 @@ module _ {n K : ℕ} {Ch : Offers → Offers} (M : Market n K Ch) where
       go false false p q = p ∙ sym q
 
   module _ (rows : Rows) {t u : State} (i : ℕ) (law : Ranked (rows i)) (more : t i < rows i .len) (s : Turned i t u) where
-    held-or-new : (X : Offers) → Ch (offers rows t) ⊆ X → X i (rows i .entry (t i)) ≡ true → Ch (offers rows u) ⊆ X
+    pub held-or-new : (X : Offers) → Ch (offers rows t) ⊆ X → X i (rows i .entry (t i)) ≡ true → Ch (offers rows u) ⊆ X
     held-or-new X a b j e = split-at (λ j. Ch (offers rows u) j e ≡ true → X j e ≡ true) i here elsewhere j
       where
         last : (j : ℕ) → Ch (offers rows u) j e ≡ true → rows j .rank e < u j

@@ -15,14 +15,14 @@ use Rattle.round.specs.Lists as Lists
 use Rattle.round.specs.Round.{StepRule, Round}
 use Rattle.round.specs.Places.{candidateAt, instituteAt, noStep}
 use Rattle.round.specs.Sound.{SoundInstitute}
-use Rattle.round.proofs.Words.{and-fst, and-snd}
+use Rattle.round.proofs.Words.{and-fst}
 use Rattle.choice.proofs.Taking.{takingForUse}
-use Rattle.choice.proofs.Completion.{Lawful, completion, completion-within, completion-stays, completion-grows, totalTaken}
 use Rattle.choice.proofs.Offers.{offersIn, offers-by-place}
+use Rattle.choice.proofs.Completion.{Lawful, completion, completion-within, completion-stays, completion-grows, totalTaken}
 use Rattle.allotment.specs.Offers.{OfferSet, candidateOn, placeOn}
 use Rattle.allotment.proofs.Market.Sums.{sum, bit, sum-same}
 use Rattle.allotment.proofs.Market.DoubleSums.{sum-through}
-use Rattle.allotment.proofs.Rounds.Places.{meritLength, place-within, candidate-at, candidate-below, place-of}
+use Rattle.allotment.proofs.Rounds.Places.{meritLength, candidate-at, candidate-below, place-of}
 
 -- how many of a candidate's five possible offers to an institute are in the set
 unfoldable pub five : (Category → Bool) → ℕ

@@ -3,8 +3,6 @@ use mathlib.Core.Path.{_≡_, refl}
 use mathlib.Core.Bool.{Bool, true, false, cond}
 use Prim.Native.Nat.{ℕ, zero, suc, _+_, _≤_, _<_}
 use native.Mathlib.Omega.{arith}
-use native.Mathlib.Nat.{lt-of-not-le}
-use native.Mathlib.Decide.{ℕ-discrete}
 use Rattle.round.specs.Lists.{firstFrom, first}
 use Rattle.allotment.proofs.Market.Tests.{clash}
 use Rattle.allotment.proofs.Market.Update.{split-at}

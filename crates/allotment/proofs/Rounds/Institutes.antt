@@ -1,13 +1,13 @@
 -- A sound round is a market: its institutes' completions together.
-use mathlib.Core.Path.{_≡_, refl, sym, _∙_, ap, subst}
+use mathlib.Core.Path.{_≡_, refl, _∙_, ap, subst}
 use mathlib.Core.Bool.{Bool, true, false, _&&_}
-use Prim.Native.Nat.{ℕ, zero, suc, _+_, _*_, _/_, _%_, _≤_, _<_}
+use Prim.Native.Nat.{ℕ, zero, suc, _+_, _*_, _/_, _%_, _<_}
 use native.Mathlib.Omega.{arith}
 use lib.Dec.{ltb}
 use borrow.Author.Tests.{ltb-true, lt-ltb}
 use Rattle.round.specs.declared.entry.Category.{Category}
 use Rattle.round.specs.declared.entry.Category.the-variants.{Open, SC, ST, OBC, EWS}
-use Rattle.round.specs.Category.{codeOf, categoryOf}
+use Rattle.round.specs.Category.{categoryOf}
 use Rattle.round.specs.Round.{Round}
 use Rattle.round.specs.Sound.{Sound}
 use Rattle.round.proofs.Words.{and-fst, and-snd}
@@ -15,7 +15,7 @@ use Rattle.allotment.specs.Offers.{OfferSet}
 use Rattle.allotment.specs.Process.{candidateCount, instituteCount}
 use Rattle.allotment.proofs.Market.Sums.{sum, count, bit, sum-le, sum-same}
 use Rattle.allotment.proofs.Market.DoubleSums.{sum-swap}
-use Rattle.allotment.proofs.Market.Laws.{Offers, _⊆_, Market, total}
+use Rattle.allotment.proofs.Market.Laws.{Offers, Market, total}
 use Rattle.allotment.proofs.Rounds.Numbered.{numberOf, code-small, number-institute, number-category, number-back}
 use Rattle.allotment.proofs.Rounds.Completed.{five, five-same, completed, completed-within, completed-stays, completed-grows}
 

@@ -1,6 +1,6 @@
 -- Entries as numbers: institute j, from 0, with a category is 5 * j + code. So numbered, the rows of a sound round are ranked.
 use mathlib.Core.Path.{_≡_, refl, sym, _∙_, ap}
-use mathlib.Core.Bool.{Bool, true, false, cond, _&&_}
+use mathlib.Core.Bool.{Bool, true, false, cond}
 use mathlib.Core.List.{List, [], _∷_}
 use Prim.Native.Nat.{ℕ, zero, suc, _+_, _*_, _-_, _/_, _%_, _≤_, _<_}
 use native.Mathlib.Omega.{arith}
@@ -11,14 +11,13 @@ use Rattle.round.specs.declared.entry.Category.{Category}
 use Rattle.round.specs.declared.entry.Category.the-variants.{Open, SC, ST, OBC, EWS}
 use Rattle.round.specs.declared.entry.Entry.{Entry}
 use Rattle.round.specs.Category.{codeOf, categoryOf}
-use Rattle.round.specs.Round.{Round}
+use Rattle.round.specs.Round.{Candidate, Round}
 use Rattle.round.specs.Places.{candidateAt, entryAt, noEntry}
 use Rattle.round.specs.Sound.{SoundCandidate}
 use Rattle.round.proofs.Words.{and-fst, and-snd}
 use Rattle.round.proofs.Sound.{code-category}
 use Rattle.choice.proofs.Offers.{same-self, same-category}
 use Rattle.allotment.specs.Rows.{rowAt, rankIn, entryOf, sameEntry}
-use Rattle.allotment.proofs.Market.Tests.{is-false, clash}
 use Rattle.allotment.proofs.Market.Rows.{Row, Ranked, Rows}
 
 abbrev pub numberOf : ℕ → Category → ℕ
@@ -102,34 +101,37 @@ rank-first (y ∷ row) (suc p) l = go (sameEntry y (getD row p noEntry)) (rank-f
     go true h = omega arith
     go false h = omega arith
 
--- the row of candidate i in numbers
-unfoldable pub rowsOf : Round → Rows
-rowsOf r i = record {
-  len = length (rowAt r i);
-  entry = λ p. numberOf (entryAt (candidateAt r i) p .institute - 1) (entryAt (candidateAt r i) p .category);
-  rank = λ e. rankIn (rowAt r i) (entryWith e);
+-- a candidate's row in numbers
+unfoldable pub rowBy : Candidate → Row
+rowBy c = record {
+  len = length (c .row);
+  entry = λ p. numberOf (entryAt c p .institute - 1) (entryAt c p .category);
+  rank = λ e. rankIn (c .row) (entryWith e);
 }
+
+abbrev pub rowsOf : Round → Rows
+rowsOf r i = rowBy (candidateAt r i)
 
 module _ (r : Round) where
   pub row-length : (i : ℕ) → rowsOf r i .len ≡ length (rowAt r i)
-  unfolding rowsOf
+  unfolding rowBy
   row-length i = refl
 
   pub rows-rank : (i j : ℕ) (c : Category) → rowsOf r i .rank (numberOf j c) ≡ rankIn (rowAt r i) (entryOf j c)
-  unfolding rowsOf
+  unfolding rowBy
   rows-rank i j c = ap (λ (e : Entry). rankIn (rowAt r i) e) (number-entry j c)
 
   -- a candidate's entry from its number
   pub rows-entry : {institutes types : ℕ} (i : ℕ) → SoundCandidate institutes types (candidateAt r i) → (p : ℕ) → p < length (rowAt r i)
       → entryWith (rowsOf r i .entry p) ≡ entryAt (candidateAt r i) p
-  unfolding rowsOf
+  unfolding rowBy
   rows-entry i s p l =
       let x = entryAt (candidateAt r i) p in
       let q : suc (x .institute - 1) ≡ x .institute = omega (arith, s .entry-from p l) in
       number-entry (x .institute - 1) (x .category) ∙ (λ k. record { institute = q k; category = x .category })
 
   pub rows-ranked : {institutes types : ℕ} (i : ℕ) → SoundCandidate institutes types (candidateAt r i) → Ranked (rowsOf r i)
-  unfolding rowsOf
+  unfolding rowBy
   rows-ranked i s = record {
     rank-entry = λ p l. ap (λ (e : Entry). rankIn (rowAt r i) e) (rows-entry i s p l) ∙ place p l;
     entry-rank = λ e l.

@@ -3,11 +3,11 @@ use mathlib.Core.Path.{_≡_, refl, sym, _∙_, ap}
 use mathlib.Core.Bool.{Bool, true, false, cond, not}
 use mathlib.Core.Logic.{_≢_, _⊎_, inl, inr}
 use mathlib.Core.List.{List, []}
-use Prim.Native.Nat.{ℕ, suc, _/_, _%_, _≤_, _<_}
+use Prim.Native.Nat.{ℕ, suc, _/_, _%_, _<_}
 use native.Mathlib.Omega.{arith}
 use lib.Dec.{eqb, ltb}
-use lib.ListN.{length, getD}
-use borrow.Author.Tests.{lt-ltb, le-ltb, eq-eqb, ne-eqb, eqb-false, not-true}
+use lib.ListN.{getD}
+use borrow.Author.Tests.{lt-ltb, le-ltb, ne-eqb, eqb-false, not-true}
 use Rattle.round.specs.declared.entry.Category.{Category}
 use Rattle.round.specs.Category.{categoryOf}
 use Rattle.round.specs.Lists.{first}
@@ -15,8 +15,8 @@ use Rattle.round.specs.Round.{Round}
 use Rattle.round.specs.Sound.{Sound}
 use Rattle.round.proofs.Words.{tabulate-at}
 use Rattle.allotment.specs.Rows.{categoryAt}
-use Rattle.allotment.specs.Offers.{OfferSet, placeOn, stepsOn, stepFor, takenFrom}
-use Rattle.allotment.specs.Process.{Seat, noSeat, candidateCount, instituteCount, madeTo, chosen, seatBy, seatsAfter}
+use Rattle.allotment.specs.Offers.{placeOn, stepsOn, stepFor}
+use Rattle.allotment.specs.Process.{noSeat, candidateCount, instituteCount, madeTo, chosen, seatBy, seatsAfter}
 use Rattle.allotment.proofs.Market.Tests.{clash}
 use Rattle.allotment.proofs.Market.Laws.{Held, Unheld, held-or-not}
 use Rattle.allotment.proofs.Rounds.Numbered.{numberOf, number-same, number-back}

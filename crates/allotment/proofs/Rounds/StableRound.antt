@@ -1,32 +1,31 @@
 -- The list of a sound round is stable.
-use mathlib.Core.Path.{_≡_, refl, sym, _∙_, ap, subst, subst⁻¹}
-use mathlib.Core.Bool.{Bool, true, false, _&&_, _||_}
+use mathlib.Core.Path.{_≡_, refl, sym, _∙_, ap}
+use mathlib.Core.Bool.{Bool, true, false, _&&_}
 use mathlib.Core.Logic.{_⊎_, inl, inr, ⊎-elim}
 use mathlib.Core.List.{List}
-use Prim.Native.Nat.{ℕ, suc, _+_, _*_, _/_, _%_, _≤_, _<_}
+use Prim.Native.Nat.{ℕ, _*_, _/_, _%_, _≤_, _<_}
 use native.Mathlib.Omega.{arith}
 use lib.Dec.{eqb, ltb}
 use lib.ListN.{length, getD}
 use borrow.Author.Tests.{ltb-true, ltb-false, eqb-true, eq-eqb}
 use Rattle.round.specs.declared.entry.Category.{Category}
-use Rattle.round.specs.Category.{codeOf, categoryOf}
+use Rattle.round.specs.Category.{categoryOf}
 use Rattle.round.specs.Round.{Round}
 use Rattle.round.specs.Sound.{Sound}
 use Rattle.round.proofs.Words.{and-fst, and-snd, and-no}
 use Rattle.allotment.specs.Rows.{rowAt, rankIn, entryOf}
-use Rattle.allotment.specs.Offers.{OfferSet, placeOn, stepsOn, stepFor, takenFrom}
-use Rattle.allotment.specs.Process.{noSeat, candidateCount, instituteCount, madeTo, seatsAfter, tried, seats}
+use Rattle.allotment.specs.Offers.{OfferSet, placeOn, stepsOn, stepFor}
+use Rattle.allotment.specs.Process.{noSeat, candidateCount, instituteCount, madeTo, tried, seats}
 use Rattle.allotment.specs.Truthful.{standing}
 use Rattle.allotment.specs.Stable.{given, stepOf, Listed, Same, together, WouldChoose, SomeBelow, Stable}
 use Rattle.allotment.proofs.Market.Tests.{clash, or-case, or-right, some-below}
 use Rattle.allotment.proofs.Market.Laws.{Offers}
 use Rattle.allotment.proofs.Market.Reached.{reached-fits}
-use Rattle.allotment.proofs.Market.Stable.{NoneBelow, tried-all}
-use Rattle.allotment.proofs.Rounds.Numbered.{numberOf, code-small, number-institute, number-category, number-back, rowsOf, row-length, rows-rank}
-use Rattle.allotment.proofs.Rounds.Completed.{completed}
+use Rattle.allotment.proofs.Market.Stable.{tried-all}
+use Rattle.allotment.proofs.Rounds.Numbered.{numberOf, code-small, number-institute, number-category, rowBy, rowsOf, row-length, rows-rank}
 use Rattle.allotment.proofs.Rounds.Institutes.{round-market}
 use Rattle.allotment.proofs.Rounds.Agreed.{taken-by-steps, same-steps-on}
-use Rattle.allotment.proofs.Rounds.Running.{stateOf, made, held, made-to, held-at, Running, one-entry-held, one-at, taken-held, held-made}
+use Rattle.allotment.proofs.Rounds.Running.{held, made-to, held-at, Running, one-entry-held, one-at, taken-held, held-made}
 use Rattle.allotment.proofs.Rounds.Seats.{Seated, Unseated, seat-of}
 use Rattle.allotment.proofs.Rounds.Process.{tried-running, tried-final}
 use Rattle.allotment.proofs.Rounds.Standing.{seated-rank, standing-seated, standing-unseated}
@@ -74,7 +73,7 @@ module _ {types : ℕ} {r : Round} (sound : Sound types r) where
       setOf i e = eqb (e / 5) j && set i (categoryOf (e % 5))
 
       set-of : (i e : ℕ) → setOf i e ≡ true → (rowsOf r i .rank e ≡ rankIn (rowAt r i) (entryOf j (categoryOf (e % 5)))) × (set i (categoryOf (e % 5)) ≡ true)
-      unfolding rowsOf
+      unfolding rowBy
       set-of i e z = (
         ap (λ q. rankIn (rowAt r i) (entryOf q (categoryOf (e % 5)))) (eqb-true (e / 5) j (and-fst (eqb (e / 5) j) _ z)),
         and-snd (eqb (e / 5) j) _ z,

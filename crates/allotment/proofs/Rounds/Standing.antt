@@ -1,11 +1,11 @@
 -- Where a seat stands in its holder's row: with the entry that is held.
-use mathlib.Core.Path.{_≡_, refl, sym, _∙_, ap}
-use mathlib.Core.Bool.{Bool, true, false, cond, _&&_}
+use mathlib.Core.Path.{_≡_, refl, _∙_, ap}
+use mathlib.Core.Bool.{true, cond}
 use mathlib.Core.Logic.{_≢_}
 use mathlib.Core.List.{List}
 use Prim.Native.Nat.{ℕ, suc, _-_, _≤_, _<_}
 use native.Mathlib.Omega.{arith}
-use lib.Dec.{eqb, ltb, leb}
+use lib.Dec.{ltb}
 use lib.ListN.{length, getD}
 use borrow.Author.Tests.{lt-ltb, le-leb, ne-eqb}
 use Rattle.round.specs.declared.entry.Category.{Category}
@@ -14,14 +14,14 @@ use Rattle.round.specs.Questions.{within}
 use Rattle.round.specs.Places.{instituteAt}
 use Rattle.round.specs.Sound.{Sound}
 use Rattle.allotment.specs.Rows.{rowAt, rankIn, entryOf, categoryAt}
-use Rattle.allotment.specs.Process.{Seat, noSeat, candidateCount, instituteCount, madeTo, seatsAfter}
+use Rattle.allotment.specs.Process.{noSeat, instituteCount, madeTo, seatsAfter}
 use Rattle.allotment.specs.Truthful.{isStep, seatRank, standing}
 use Rattle.allotment.proofs.Market.Rows as Rows
 use Rattle.allotment.proofs.Market.Reached.{reached-fits}
 use Rattle.allotment.proofs.Rounds.Numbered.{numberOf, rowsOf, rows-rank, row-length}
 use Rattle.allotment.proofs.Rounds.Institutes.{round-market}
 use Rattle.allotment.proofs.Rounds.Agreed.{step-number}
-use Rattle.allotment.proofs.Rounds.Running.{stateOf, made, held, Running}
+use Rattle.allotment.proofs.Rounds.Running.{stateOf, made, Running}
 use Rattle.allotment.proofs.Rounds.Seats.{stepIn, Seated, Unseated}
 
 module _ (r : Round) where
