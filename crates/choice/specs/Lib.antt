@@ -1,3 +1,5 @@
 pub mod Use
 pub mod Step
 pub mod Choice
+pub mod Offers
+pub mod Search

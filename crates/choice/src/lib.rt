@@ -1,1 +1,2 @@
 // One institute's choice.
+pub mod placing;
