@@ -1,12 +1,13 @@
--- Counts of the numbers below n that pass a test: one more number, two tests that agree, two that differ at one number.
+-- Counts of the numbers below n that pass a test: one more number, tests that differ at one number, fewer numbers.
 use Prim.Native.Nat.{ℕ, zero, suc, _+_, _≤_, _<_}
 use mathlib.Core.Path.{_≡_, refl, ap}
 use mathlib.Core.Bool.{Bool, true, false}
 use native.Mathlib.Omega.{arith}
 use native.Mathlib.Numerals.{add-one}
-use lib.Dec.{eqb}
+use lib.Dec.{eqb, ltb}
 use Rattle.round.specs.Lists.{bit, count}
-use borrow.Author.Tests.{eqb-true, eqb-false}
+use Rattle.choice.proofs.Counting.{bit-le, count-le, count-ext}
+use borrow.Author.Tests.{eqb-true, eqb-false, ltb-true, ltb-false}
 
 -- one number more, tested
 pub count-more : (X : ℕ → Bool) (p n b : ℕ) → n ≡ count p X → bit (X p) ≡ b → n + b ≡ count (p + 1) X
@@ -18,20 +19,7 @@ bit-true e = ap bit e
 pub bit-false : {b : Bool} → b ≡ false → bit b ≡ 0
 bit-false e = ap bit e
 
-bit-le : (a b : Bool) → (a ≡ true → b ≡ true) → bit a ≤ bit b
-bit-le true b h = omega (arith, bit-true (h refl))
-bit-le false b h = omega arith
-
--- a test that passes less often counts less
-pub count-le : (n : ℕ) (X Y : ℕ → Bool) → ((p : ℕ) → p < n → X p ≡ true → Y p ≡ true) → count n X ≤ count n Y
-count-le zero X Y h = omega arith
-count-le (suc n) X Y h = omega (arith, bit-le (X n) (Y n) (h n (omega arith)), count-le n X Y (λ p l. h p (omega arith)))
-
-pub count-same : (n : ℕ) (X Y : ℕ → Bool) → ((p : ℕ) → p < n → X p ≡ Y p) → count n X ≡ count n Y
-count-same zero X Y h = refl
-count-same (suc n) X Y h = omega (arith, ap bit (h n (omega arith)), count-same n X Y (λ p l. h p (omega arith)))
-
--- .. and by one at least where it misses a number that the other has
+-- a test that passes less often, and misses a number that the other has
 pub count-less : (n c : ℕ) (X Y : ℕ → Bool) → c < n → ((p : ℕ) → p < n → X p ≡ true → Y p ≡ true) → X c ≡ false → Y c ≡ true
     → count n X < count n Y
 count-less zero c X Y l h x y = omega arith
@@ -57,5 +45,23 @@ count-one (suc n) c X Y h = go (eqb n c) refl (count-one n c X Y h)
     go true e _ =
         let at : n ≡ c = eqb-true n c e in
         omega
-        (arith, ap bit (ap X at), count-same n X Y (λ p l. h p (λ q. omega arith)))
+        (arith, ap bit (ap X at), count-ext n X Y (λ p l. h p (λ q. omega arith)))
     go false e rest = omega (arith, ap bit (h n (eqb-false n c e)))
+
+-- fewer numbers are tested
+pub count-within : (k n : ℕ) (X : ℕ → Bool) → k ≤ n → count k X ≤ count n X
+count-within k zero X h = let e : k ≡ 0 = omega arith in rw e (omega arith)
+count-within k (suc n) X h = go (eqb k (suc n)) refl (count-within k n X)
+  where
+    go : (b : Bool) → eqb k (suc n) ≡ b → (k ≤ n → count k X ≤ count n X) → count k X ≤ count (suc n) X
+    go true e _ = rw (eqb-true k (suc n) e) (omega arith)
+    go false e rest = omega (arith, rest (omega (arith, eqb-false k (suc n) e)))
+
+-- the numbers from k on fail the test
+pub count-rest : (k n : ℕ) (X : ℕ → Bool) → ((q : ℕ) → k ≤ q → X q ≡ false) → count n X ≤ count k X
+count-rest k zero X h = omega arith
+count-rest k (suc n) X h = go (ltb n k) refl (count-rest k n X h)
+  where
+    go : (b : Bool) → ltb n k ≡ b → count n X ≤ count k X → count (suc n) X ≤ count k X
+    go true e _ = count-within (suc n) k X (omega (arith, ltb-true n k e))
+    go false e rest = omega (arith, bit-false (h n (ltb-false n k e)))

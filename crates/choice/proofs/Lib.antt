@@ -6,3 +6,6 @@ pub mod TakingRule
 pub mod Taking
 pub mod Counts
 pub mod Visits
+pub mod Written
+pub mod Down
+pub mod Fills

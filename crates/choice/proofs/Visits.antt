@@ -8,12 +8,12 @@ use lib.Dec.{eqb, ltb}
 use lib.ListN.{length, getD, set, length-set, List·getD-eq-default}
 use lib.Seq.{getD-set-same, getD-set-other}
 use borrow.Author.Tests.{eqb-true, eqb-false, eq-eqb, ne-eqb, ltb-true, ltb-false}
-use Rattle.round.specs.Lists.{count, bit}
+use Rattle.round.specs.Lists.{bit}
 use Rattle.choice.specs.declared.placing.Found.{Found}
 use Rattle.choice.specs.declared.placing.Found.the-variants.{At, Nothing}
 use Rattle.choice.specs.Use.{holds, Placing}
 use Rattle.choice.specs.Search.{atType, unvisited, Moved, Stuck}
-use Rattle.choice.proofs.Counts.{count-le, count-less, count-one, bit-true, bit-false}
+use Rattle.choice.proofs.Counts.{count-less, count-one, bit-true, bit-false}
 
 -- the types visited since: each is full, and who is placed at one holds visited types only
 pub record Grown (reserved marks placed visited visited′ : List ℕ) : Type 0 where

@@ -3,3 +3,5 @@ pub mod Step
 pub mod Choice
 pub mod Offers
 pub mod Search
+pub mod Taken
+pub mod Fill

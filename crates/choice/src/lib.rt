@@ -1,2 +1,5 @@
 // One institute's choice.
+pub mod fill;
 pub mod placing;
+pub mod positions;
+pub mod take;

@@ -47,7 +47,7 @@ loop-again c =
     let X : ℕ → Bool = λ i. eqb (getD (here .placed .now) i 0) (suc (here .t)) in
     let n = c .before .before .before .before .loop .n in
     let so-far : n ≡ count q X = c .before .before .before .before .loop .inv .3 in
-    let byte : c .before .wide .result ≡ getD (here .placed .now) q 0 = c .before .wide .ensures in
+    let byte : c .before .wide .result ≡ getD (here .placed .now) q 0 = c .before .wide .ensures .0 in
     ⊎-elim
     (λ w.
     let more : n + 1 ≡ count (q + 1) X = count-more X q n 1 so-far (bit-true (eq-eqb (getD (here .placed .now) q 0) (suc (here .t)) (omega (arith, w .0 .taken)))) in
