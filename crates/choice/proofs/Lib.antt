@@ -9,3 +9,5 @@ pub mod Visits
 pub mod Written
 pub mod Down
 pub mod Fills
+pub mod Steps
+pub mod Choosing
