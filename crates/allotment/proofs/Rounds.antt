@@ -1,5 +1,6 @@
 -- Every sound round is a market, its process is the market's, and its list is stable and truthful.
 pub mod Numbered
+pub mod Fives
 pub mod First
 pub mod Places
 pub mod Completed

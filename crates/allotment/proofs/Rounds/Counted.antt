@@ -13,7 +13,7 @@ use Rattle.allotment.specs.Process.{candidateCount, entryTotal}
 use Rattle.allotment.proofs.Market.Sums.{sum, sum-le, sum-same}
 use Rattle.allotment.proofs.Market.Reached.{reached-fits}
 use Rattle.allotment.proofs.Rounds.Numbered.{rowBy, rowsOf}
-use Rattle.allotment.proofs.Rounds.Completed.{sum-is}
+use Rattle.allotment.proofs.Rounds.Fives.{sum-is}
 use Rattle.allotment.proofs.Rounds.Running.{stateOf, Running}
 
 sum-listed : (l : List ℕ) → Lists.sum l ≡ Lists.sumOf (length l) (stateOf l)
