@@ -2,3 +2,4 @@ pub mod Market
 pub mod Rounds
 pub mod Starred
 pub mod Files
+pub mod Turns

@@ -7,3 +7,4 @@ pub mod Truthful
 pub mod Stable
 pub mod Promise
 pub mod Held
+pub mod Turns

@@ -1,0 +1,2 @@
+-- The mathematics of the code's loops.
+pub mod NextSeats
