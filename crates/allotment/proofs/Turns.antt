@@ -1,2 +1,5 @@
--- The mathematics of the code's loops.
+-- The mathematics of the code's turns.
 pub mod NextSeats
+pub mod Known
+pub mod Gathers
+pub mod Scatters

@@ -27,6 +27,10 @@ unfoldable pub offerOf : ℕ → ℕ → ℕ → List ℕ → List ℕ → ℕ �
 offerOf number i new holders steps c =
     cond (eqb c i) new (cond (eqb (getD holders c 0) number) (stepOffer (getD steps c 0)) 0)
 
+-- the marks of candidate c
+unfoldable pub marksOf : Round → ℕ → ℕ
+marksOf r c = candidateAt r c .marks
+
 -- the set of offers that such numbers make
 unfoldable pub offersBy : (ℕ → ℕ) → OfferSet
 offersBy offer i c = eqb (offer i) (suc (codeOf c))
@@ -36,12 +40,10 @@ abbrev pub holderBy : ℕ → ℕ → ℕ
 holderBy number step = cond (eqb step 0) 0 number
 
 module _ (r : Round) (j : ℕ) where
-  -- the marks and the offer of the candidate at each of the first places of institute j's merit list
-  pub record Gathered (offer : ℕ → ℕ) (count : ℕ) (marks offers : List ℕ) : Type 0 where
-    pub marks-many : length marks ≡ length (instituteAt r j .merit)
-    pub offers-many : length offers ≡ length (instituteAt r j .merit)
-    pub marks-at : (p : ℕ) → p < count → getD marks p 0 ≡ candidateAt r (candidateOn r j p) .marks
-    pub offers-at : (p : ℕ) → p < count → getD offers p 0 ≡ offer (candidateOn r j p)
+  -- a table has a number of the candidate at each of the first places of institute j's merit list
+  pub record Gathered (value : ℕ → ℕ) (count : ℕ) (table : List ℕ) : Type 0 where
+    pub many : length table ≡ length (instituteAt r j .merit)
+    pub number : (p : ℕ) → p < count → getD table p 0 ≡ value (candidateOn r j p)
 
   -- candidate c stands at one of the first places of institute j's merit list and has an offer
   unfoldable pub takesPart : (ℕ → ℕ) → ℕ → ℕ → Bool

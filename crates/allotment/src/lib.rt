@@ -1,4 +1,7 @@
 // The allotment of a round.
+pub mod gather;
+pub mod scatter;
+pub mod table;
 
 // The answer of a call: the number of offers, or the number of the refusal with its byte.
 pub enum Answer {
