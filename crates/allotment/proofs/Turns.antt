@@ -3,3 +3,5 @@ pub mod NextSeats
 pub mod Known
 pub mod Gathers
 pub mod Scatters
+pub mod Choosing
+pub mod Going

@@ -1,14 +1,15 @@
 -- What is known of an accepted file whose head and starts of records are at hand.
-use mathlib.Core.Path.{_≡_, sym, _∙_, ap}
-use mathlib.Core.List.{List}
-use Prim.Native.Nat.{ℕ, _-_, _≤_, _<_}
+use mathlib.Core.Path.{_≡_, refl, sym, _∙_, ap}
+use mathlib.Core.List.{List, _∷_}
+use Prim.Native.Nat.{ℕ, zero, suc, _-_, _≤_, _<_}
 use native.Mathlib.Omega.{arith}
-use lib.ListN.{length}
+use lib.ListN.{length, take, replicate, length-replicate}
+use Rattle.round.specs.declared.entry.Entry.{Entry}
 use Rattle.round.specs.declared.head.Head.{Head as CodeHead}
 use Rattle.round.specs.Records.{Head, headOf}
 use Rattle.round.specs.Reading.{roundOf}
 use Rattle.round.specs.Refusal.{passes, verdict}
-use Rattle.round.specs.Places.{instituteAt, meritAt}
+use Rattle.round.specs.Places.{candidateAt, instituteAt, entryAt, meritAt}
 use Rattle.round.specs.Sound.{Sound, SoundInstitute}
 use Rattle.round.specs.Read.{InRange}
 use Rattle.round.specs.Outcome.{CandidateStarts}
@@ -69,3 +70,36 @@ module _ {file : List ℕ} {h : CodeHead} {candidates merits : List ℕ} (at : A
 
   pub knows-institute : {j : ℕ} → j < h .institutes → InstituteKnown file h j
   knows-institute l = record { accepted = at .passing; head = at .head; below = l }
+
+  -- the entry of candidate i that the code has read
+  module _ {i : ℕ} (inside : i < h .candidates) where
+    pub row-few : length (candidateAt (roundOf file) i .row) ≤ 16
+    row-few = round-sound .candidate i (omega (arith, candidates-many)) .row-short
+
+    module _ {k : ℕ} (short : k < length (candidateAt (roundOf file) i .row)) {m : ℕ} (same : m ≡ k) {entry : Entry}
+        (reads : entry ≡ entryAt (candidateAt (roundOf file) i) m) where
+      reads-institute : entry .institute ≡ entryAt (candidateAt (roundOf file) i) k .institute
+      reads-institute = ap (λ (x : Entry). x .institute) reads ∙ ap (λ x. entryAt (candidateAt (roundOf file) i) x .institute) same
+
+      pub entry-least : 1 ≤ entry .institute
+      entry-least = omega (arith, reads-institute, round-sound .candidate i (omega (arith, candidates-many)) .entry-from k short)
+
+      pub entry-inside : entry .institute - 1 < h .institutes
+      entry-inside =
+          omega (
+            arith,
+            entry-least,
+            reads-institute,
+            institutes-many,
+            round-sound .candidate i (omega (arith, candidates-many)) .entry-to k short,
+          )
+
+-- a table of zeros has its length
+pub sized : (n : ℕ) {table : List ℕ} → table ≡ replicate n 0 → length table ≡ n
+sized n e = ap length e ∙ length-replicate n 0
+
+-- the first zeros of a table of zeros
+pub front-zeros : (m n : ℕ) → m ≤ n → take m (replicate n zero) ≡ replicate m zero
+front-zeros zero n l = refl
+front-zeros (suc m) zero l = absurd (omega arith)
+front-zeros (suc m) (suc n) l = ap (λ (t : List ℕ). zero ∷ t) (front-zeros m n (omega arith))
