@@ -4,3 +4,4 @@ pub mod Starred
 pub mod Files
 pub mod Promise
 pub mod Calling
+pub mod Turns

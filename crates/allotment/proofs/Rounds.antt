@@ -1,5 +1,6 @@
 -- Every sound round is a market, its process is the market's, and its list is stable and truthful.
 pub mod Numbered
+pub mod Fives
 pub mod First
 pub mod Places
 pub mod Completed
@@ -7,6 +8,7 @@ pub mod Institutes
 pub mod Agreed
 pub mod Running
 pub mod Seats
+pub mod Counted
 pub mod Process
 pub mod Standing
 pub mod Given
@@ -15,3 +17,4 @@ pub mod TruthfulRound
 pub mod Turn
 pub mod Bounds
 pub mod AnyOrder
+pub mod Reseated

@@ -9,3 +9,4 @@ pub mod Promise
 pub mod Held
 pub mod Writing
 pub mod Handing
+pub mod Turns

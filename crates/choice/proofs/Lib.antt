@@ -13,3 +13,10 @@ pub mod Below
 pub mod Chosen
 pub mod Agreement
 pub mod HeldAndNew
+pub mod Counts
+pub mod Visits
+pub mod Written
+pub mod Down
+pub mod Fills
+pub mod Steps
+pub mod Choosing

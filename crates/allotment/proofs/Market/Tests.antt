@@ -13,6 +13,12 @@ pub is-false : (b : Bool) → b ≢ true → b ≡ false
 is-false true h = absurd (h refl)
 is-false false h = refl
 
+-- two tests that imply each other are one
+pub same-test : (a b : Bool) → (a ≡ true → b ≡ true) → (b ≡ true → a ≡ true) → a ≡ b
+same-test true b f g = sym (f refl)
+same-test false true f g = g refl
+same-test false false f g = refl
+
 pub or-case : (a b : Bool) → (a || b) ≡ true → (a ≡ true) ⊎ (b ≡ true)
 or-case true b p = inl p
 or-case false b p = inr p

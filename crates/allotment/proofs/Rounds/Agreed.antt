@@ -51,9 +51,18 @@ module _ (r : Round) (j : ℕ) where
   abbrev pub One : OfferSet → Type 0
   One Y = (i : ℕ) (c d : Category) → completed r j Y i c ≡ true → completed r j Y i d ≡ true → c ≡ d
 
+  merit-marks : length (marksOn r j) ≡ meritLength r j
+  merit-marks = length-map (instituteAt r j .merit) _
+
   pub step-number : (Y : OfferSet) (i : ℕ) → stepFor r j Y i ≤ length (instituteAt r j .steps)
   unfolding stepFor stepsOn
   step-number Y i = choose-number (marksOn r j) (atPlaces r j Y) (instituteAt r j .steps) (placeOn r j i)
+
+  -- who is absent from the merit list has no step
+  pub step-absent : (Y : OfferSet) (i : ℕ) → ¬ (placeOn r j i < meritLength r j) → stepFor r j Y i ≡ 0
+  unfolding stepFor stepsOn
+  step-absent Y i l =
+      List·getD-eq-default (stepsOn r j Y) 0 (omega (arith, merit-marks, choose-length (marksOn r j) (atPlaces r j Y) (instituteAt r j .steps)))
 
   -- who has a step is taken under its category
   pub step-taken : (Y : OfferSet) (i : ℕ) → stepFor r j Y i ≢ 0 → takenFrom r j Y i (categoryAt r j (stepFor r j Y i)) ≡ true
@@ -74,9 +83,6 @@ module _ (r : Round) (j : ℕ) where
       ap (λ (l : List ℕ). not (eqb (getD l (placeOn r j i) 0) 0) && sameCategory (categoryAt r j (getD l (placeOn r j i) 0)) c) e
 
   module _ {n types : ℕ} (sound : SoundInstitute n types (instituteAt r j)) where
-    merit-marks : length (marksOn r j) ≡ meritLength r j
-    merit-marks = length-map (instituteAt r j .merit) _
-
     alone : (Y : OfferSet) → One Y → Alone (length (marksOn r j)) (completedAt r j Y)
     alone Y one p l c d t u =
         let m : p < meritLength r j = omega (arith, merit-marks) in
@@ -93,10 +99,7 @@ module _ (r : Round) (j : ℕ) where
               (omega (arith, merit-marks))
               c
               ∙ sym (completed-on r j Y i c l)
-          | no l ↦
-              let out : getD (stepsOn r j Y) (placeOn r j i) 0 ≡ 0 =
-              List·getD-eq-default (stepsOn r j Y) 0 (omega (arith, merit-marks, choose-length (marksOn r j) (atPlaces r j Y) (instituteAt r j .steps))) in
-              rw out (sym (completed-off r j Y i c l))
+          | no l ↦ rw (step-absent Y i l) (sym (completed-off r j Y i c l))
         ]
 
     pub same-steps-on : (Y Y' : OfferSet) → One Y'

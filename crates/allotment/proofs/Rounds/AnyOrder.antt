@@ -36,14 +36,17 @@ module _ {types : ℕ} {r : Round} (sound : Sound types r) where
   offered-running begin = start-running r
   offered-running (offer i o hi may) = turn-running (offered-running o) (may-offer sound (offered-running o) i hi may)
 
-  pub any-order-tried : {state : List ℕ} → Offered r state → Ended r state → state ≡ tried r
-  any-order-tried {state} o ended =
-      let run = offered-running o in
+  -- a state that turns lead to, and in which nobody may offer, is the last of the process
+  pub ended-tried : {state : List ℕ} → Running r state → Ended r state → state ≡ tried r
+  ended-tried {state} run ended =
       ext-getD 0 state (tried r) (run .each ∙ sym (tried-running sound .each))
       (λ i l. final-tried (record {
         reached = run .reached;
         closed = record { fits = reached-fits (run .reached); served = λ p m. not-offer sound run p m (ended p m) };
       }) i)
+
+  pub any-order-tried : {state : List ℕ} → Offered r state → Ended r state → state ≡ tried r
+  any-order-tried o = ended-tried (offered-running o)
 
   pub any-order-seats : {state : List ℕ} → Offered r state → Ended r state → seatsAfter r state ≡ seats r
   unfolding seats

@@ -15,13 +15,14 @@ use Rattle.round.specs.Sound.{SoundInstitute, Sound}
 use Rattle.round.proofs.Words.{length-tabulate}
 use Rattle.choice.specs.Use.{greatest}
 use Rattle.allotment.specs.Offers.{candidateOn, placeOn}
-use Rattle.allotment.specs.Process.{Seat, noSeat, candidateCount, instituteCount, madeTo, chosen, seatBy, seatsAfter}
+use Rattle.allotment.specs.Process.{Seat, noSeat, candidateCount, instituteCount, madeTo, chosen, seatBy, seatsAfter, tried, seats}
 use Rattle.allotment.specs.Areas.{seatIs, closingPlace}
 use Rattle.allotment.proofs.Market.Sums.{sum, bit, sum-le, sum-same}
 use Rattle.allotment.proofs.Market.DoubleSums.{sum-through}
 use Rattle.allotment.proofs.Rounds.Places.{meritLength, candidate-at, candidate-below, place-of}
 use Rattle.allotment.proofs.Rounds.Agreed.{step-number}
 use Rattle.allotment.proofs.Rounds.Running.{Running}
+use Rattle.allotment.proofs.Rounds.Process.{tried-running}
 use Rattle.allotment.proofs.Rounds.Seats.{Seated, Unseated, seat-of}
 
 sum-ones : (k : ℕ) → sum k (λ i. 1) ≡ k
@@ -103,3 +104,12 @@ module _ {types : ℕ} {r : Round} (sound : Sound types r) {state : List ℕ} (r
         ),
       )
       go (inr s) = none (s .seat)
+
+-- the same of the list
+pub list-length : (r : Round) → length (seats r) ≡ candidateCount r
+unfolding seats
+list-length r = seats-length r (tried r)
+
+pub list-small : {types : ℕ} {r : Round} → Sound types r → (i : ℕ) → (getD (seats r) i noSeat .institute ≤ 32) × (getD (seats r) i noSeat .step ≤ 6)
+unfolding seats
+list-small sound = seat-small sound (tried-running sound)

@@ -1,60 +1,30 @@
 -- The completion of an institute's choice on offers of candidates: who is absent from the merit list is taken under nothing.
-use mathlib.Core.Path.{_≡_, refl, sym, _∙_, ap, subst}
+use mathlib.Core.Path.{_≡_, sym, _∙_, ap, subst}
 use mathlib.Core.Bool.{Bool, true, false, _&&_}
 use mathlib.Core.Logic.{_⊎_, inl, inr}
 use mathlib.Core.List.{List, [], _∷_, map}
-use Prim.Native.Nat.{ℕ, zero, suc, _+_, _-_, _≤_, _<_}
+use Prim.Native.Nat.{ℕ, suc, _-_, _≤_, _<_}
 use native.Mathlib.Omega.{arith}
 use native.Mathlib.Decide.{decLt}
 use lib.Dec.{ltb}
 use lib.ListN.{length, getD, length-map}
 use borrow.Author.Tests.{ltb-true, lt-ltb, le-ltb}
 use Rattle.round.specs.declared.entry.Category.{Category}
-use Rattle.round.specs.declared.entry.Category.the-variants.{Open, SC, ST, OBC, EWS}
 use Rattle.round.specs.Lists as Lists
 use Rattle.round.specs.Round.{StepRule, Round}
 use Rattle.round.specs.Places.{candidateAt, instituteAt, noStep}
 use Rattle.round.specs.Sound.{SoundInstitute}
 use Rattle.round.proofs.Words.{and-fst}
 use Rattle.choice.proofs.Taking.{takingForUse}
-use Rattle.choice.proofs.Offers.{offersIn, offers-by-place}
+use Rattle.choice.proofs.Offers.{offersIn}
 use Rattle.choice.proofs.Completion.{Lawful, completion, completion-within, completion-stays, completion-grows, totalTaken}
 use Rattle.allotment.specs.Offers.{OfferSet, candidateOn, placeOn}
-use Rattle.allotment.proofs.Market.Sums.{sum, bit, sum-same}
+use Rattle.allotment.proofs.Market.Sums.{sum, sum-same}
 use Rattle.allotment.proofs.Market.DoubleSums.{sum-through}
+use Rattle.allotment.proofs.Rounds.Fives.{five, five-same, five-none, five-is}
 use Rattle.allotment.proofs.Rounds.Places.{meritLength, candidate-at, candidate-below, place-of}
 
--- how many of a candidate's five possible offers to an institute are in the set
-unfoldable pub five : (Category → Bool) → ℕ
-five Z = bit (Z Open) + bit (Z SC) + bit (Z ST) + bit (Z OBC) + bit (Z EWS)
-
-pub five-same : (Z X : Category → Bool) → ((c : Category) → Z c ≡ X c) → five Z ≡ five X
-unfolding five
-five-same Z X h = rw (h Open, h SC, h ST, h OBC, h EWS)
-
-pub five-none : (Z : Category → Bool) → ((c : Category) → Z c ≡ false) → five Z ≡ 0
-unfolding five
-five-none Z h = rw (h Open, h SC, h ST, h OBC, h EWS)
-
--- the sums and bits of the market are those of the definitions
-pub sum-is : (k : ℕ) (f : ℕ → ℕ) → sum k f ≡ Lists.sumOf k f
-unfolding sum
-sum-is zero f = refl
-sum-is (suc k) f = omega (arith, sum-is k f)
-
-pub bit-is : (b : Bool) → bit b ≡ Lists.bit b
-bit-is true = refl
-bit-is false = refl
-
-five-is : (n : ℕ) (Y : ℕ → Category → Bool) → sum n (λ p. five (Y p)) ≡ offersIn n Y
-unfolding five
-five-is n Y =
-    sum-same n (λ p. five (Y p))
-    (λ p. Lists.bit (Y p Open) + Lists.bit (Y p SC) + Lists.bit (Y p ST) + Lists.bit (Y p OBC) + Lists.bit (Y p EWS))
-    (λ p l. omega (arith, bit-is (Y p Open), bit-is (Y p SC), bit-is (Y p ST), bit-is (Y p OBC), bit-is (Y p EWS)))
-    ∙ sum-is n _
-    ∙ sym (offers-by-place n Y)
-
+-- each step's reserved positions are within its own
 lawful-steps : (rules : List StepRule)
     → ((s : ℕ) → s < length rules → Lists.sum (getD rules s noStep .reserved) ≤ getD rules s noStep .own) → Lawful rules
 lawful-steps [] h = tt

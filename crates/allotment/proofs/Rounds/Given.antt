@@ -17,17 +17,12 @@ use Rattle.allotment.specs.Rows.{sameCategory, categoryAt}
 use Rattle.allotment.specs.Process.{Seat, noSeat, candidateCount, instituteCount, madeTo, seatsAfter}
 use Rattle.allotment.specs.Truthful.{isStep}
 use Rattle.allotment.specs.Stable.{given, stepOf}
+use Rattle.allotment.proofs.Market.Tests.{same-test}
 use Rattle.allotment.proofs.Rounds.Numbered.{numberOf}
 use Rattle.allotment.proofs.Rounds.Agreed.{step-number}
 use Rattle.allotment.proofs.Rounds.Running.{held, Running}
 use Rattle.allotment.proofs.Rounds.Seats.{stepIn, step-held, held-step, seat-held, Seated, Unseated, seat-of}
 use Rattle.allotment.proofs.Rounds.Standing.{is-step}
-
--- two tests that imply each other are one
-pub same-test : (a b : Bool) → (a ≡ true → b ≡ true) → (b ≡ true → a ≡ true) → a ≡ b
-same-test true b f g = sym (f refl)
-same-test false true f g = g refl
-same-test false false f g = refl
 
 module _ {types : ℕ} {r : Round} (sound : Sound types r) {tried : List ℕ} (run : Running r tried) (i j : ℕ)
     (hi : i < candidateCount r) (hj : j < instituteCount r) where
@@ -35,7 +30,7 @@ module _ {types : ℕ} {r : Round} (sound : Sound types r) {tried : List ℕ} (r
   seat = getD (seatsAfter r tried) i noSeat
 
   -- a seat at institute j is the step there
-  seated-at : seat .institute ≡ suc j → (stepIn r tried j i ≢ 0) × (seat ≡ record { institute = suc j; step = stepIn r tried j i })
+  pub seated-at : seat .institute ≡ suc j → (stepIn r tried j i ≢ 0) × (seat ≡ record { institute = suc j; step = stepIn r tried j i })
   seated-at e = go (seat-of sound run i hi)
     where
       go : Seated r tried i ⊎ Unseated r tried i → (stepIn r tried j i ≢ 0) × (seat ≡ record { institute = suc j; step = stepIn r tried j i })

@@ -1,12 +1,11 @@
 -- A sound round is a market: its institutes' completions together.
 use mathlib.Core.Path.{_≡_, refl, _∙_, ap, subst}
 use mathlib.Core.Bool.{Bool, true, false, _&&_}
-use Prim.Native.Nat.{ℕ, zero, suc, _+_, _*_, _/_, _%_, _<_}
+use Prim.Native.Nat.{ℕ, _*_, _/_, _%_, _<_}
 use native.Mathlib.Omega.{arith}
 use lib.Dec.{ltb}
 use borrow.Author.Tests.{ltb-true, lt-ltb}
 use Rattle.round.specs.declared.entry.Category.{Category}
-use Rattle.round.specs.declared.entry.Category.the-variants.{Open, SC, ST, OBC, EWS}
 use Rattle.round.specs.Category.{categoryOf}
 use Rattle.round.specs.Round.{Round}
 use Rattle.round.specs.Sound.{Sound}
@@ -17,21 +16,8 @@ use Rattle.allotment.proofs.Market.Sums.{sum, count, bit, sum-le, sum-s
 use Rattle.allotment.proofs.Market.DoubleSums.{sum-swap}
 use Rattle.allotment.proofs.Market.Laws.{Offers, Market, total}
 use Rattle.allotment.proofs.Rounds.Numbered.{numberOf, code-small, number-institute, number-category, number-back}
-use Rattle.allotment.proofs.Rounds.Completed.{five, five-same, completed, completed-within, completed-stays, completed-grows}
-
--- the sum over all entries, institute by institute
-sum-fives : (m : ℕ) (f : ℕ → ℕ)
-    → sum (5 * m) f ≡ sum m (λ j. f (numberOf j Open) + f (numberOf j SC) + f (numberOf j ST) + f (numberOf j OBC) + f (numberOf j EWS))
-unfolding sum
-sum-fives zero f = refl
-sum-fives (suc m) f =
-    let e : 5 * suc m ≡ suc (suc (suc (suc (suc (5 * m))))) = omega arith in
-    let a : 5 * m + 0 ≡ 5 * m = omega arith in
-    let b : 5 * m + 1 ≡ suc (5 * m) = omega arith in
-    let c : 5 * m + 2 ≡ suc (suc (5 * m)) = omega arith in
-    let d : 5 * m + 3 ≡ suc (suc (suc (5 * m))) = omega arith in
-    let g : 5 * m + 4 ≡ suc (suc (suc (suc (5 * m)))) = omega arith in
-    rw e (omega (arith, sum-fives m f, ap f a, ap f b, ap f c, ap f d, ap f g))
+use Rattle.allotment.proofs.Rounds.Fives.{five, five-same, sum-fives}
+use Rattle.allotment.proofs.Rounds.Completed.{completed, completed-within, completed-stays, completed-grows}
 
 -- of three tests the last
 and-false-last : (a b x y : Bool) → (a ≡ true → b ≡ true → x ≡ false → y ≡ false) → (a && (b && x)) ≡ false → (a && (b && y)) ≡ false

@@ -9,15 +9,11 @@ use Rattle.round.specs.Round.{Round}
 use Rattle.round.specs.Places.{instituteAt, meritAt}
 use Rattle.round.specs.Sound.{SoundInstitute}
 use Rattle.allotment.specs.Offers.{candidateOn, placeOn}
-use Rattle.allotment.proofs.Rounds.First.{first-within, first-passes, first-least}
+use Rattle.allotment.proofs.Rounds.First.{first-passes, first-least}
 
 module _ (r : Round) (j : ℕ) where
   abbrev pub meritLength : ℕ
   meritLength = length (instituteAt r j .merit)
-
-  pub place-within : (i : ℕ) → placeOn r j i ≤ meritLength
-  unfolding placeOn
-  place-within i = first-within meritLength (λ p. eqb (meritAt (instituteAt r j) p) (suc i))
 
   -- the candidate at a candidate's place
   pub candidate-at : (i : ℕ) → placeOn r j i < meritLength → candidateOn r j (placeOn r j i) ≡ i

@@ -2,49 +2,32 @@
 use mathlib.Core.Path.{_≡_, refl, sym, _∙_, ap, subst⁻¹}
 use mathlib.Core.Bool.{Bool, true, false, cond}
 use mathlib.Core.Logic.{_⊎_, inl, inr}
-use mathlib.Core.List.{List, [], _∷_, map}
+use mathlib.Core.List.{List}
 use Prim.Native.Nat.{ℕ, zero, suc, _+_, _≤_, _<_}
 use native.Mathlib.Omega.{arith}
 use native.Mathlib.Decide.{decLt}
-use lib.ListN.{length, getD, set, replicate, length-set, length-replicate, length-map, List·getD-map}
+use lib.ListN.{length, getD, set, replicate, length-set, length-replicate}
 use borrow.Author.Tests.{ltb-true, ltb-false, lt-ltb, le-ltb, ne-eqb}
 use Rattle.round.specs.Lists as Lists
 use Rattle.round.specs.Lists.{first}
 use Rattle.round.specs.Round.{Round}
-use Rattle.round.specs.Places.{noCandidate}
 use Rattle.round.specs.Sound.{Sound}
-use Rattle.round.proofs.Words.{and-fst, and-snd, and-no, sumOf-front}
+use Rattle.round.proofs.Words.{and-fst, and-snd, and-no}
 use Rattle.allotment.specs.Rows.{rowAt}
 use Rattle.allotment.specs.Process.{noSeat, isNone, candidateCount, seatsAfter, mayOffer, turn, turns, entryTotal, tried, offersMade}
 use Rattle.allotment.proofs.Market.Tests.{clash}
-use Rattle.allotment.proofs.Market.Sums.{sum, sum-le, sum-same}
+use Rattle.allotment.proofs.Market.Sums.{sum, sum-le}
 use Rattle.allotment.proofs.Market.Laws.{Unheld}
 use Rattle.allotment.proofs.Market.Reached.{start, step, Served, Closed, Final, zeros, set-turned, turned-sum, reached-fits}
 use Rattle.allotment.proofs.Market.AnyOrder as AnyOrder
 use Rattle.allotment.proofs.Rounds.Numbered.{numberOf, rowBy, rowsOf}
 use Rattle.allotment.proofs.Rounds.First.{first-passes, first-before}
-use Rattle.allotment.proofs.Rounds.Completed.{sum-is}
 use Rattle.allotment.proofs.Rounds.Institutes.{choiceOf}
 use Rattle.allotment.proofs.Rounds.Running.{stateOf, made, Running}
-use Rattle.allotment.proofs.Rounds.Seats.{Seated, Unseated, seat-of}
-
--- the sum of a list
-sum-listed : (l : List ℕ) → Lists.sum l ≡ Lists.sumOf (length l) (λ i. getD l i 0)
-sum-listed [] = refl
-sum-listed (x ∷ l) = omega (arith, sum-listed l, sumOf-front (length l) (λ i. getD (x ∷ l) i 0))
-
-pub sum-of : (l : List ℕ) → Lists.sum l ≡ sum (length l) (stateOf l)
-sum-of l = sum-listed l ∙ sym (sum-is (length l) (stateOf l))
+use Rattle.allotment.proofs.Rounds.Counted.{entries, state-sum, state-most}
+use Rattle.allotment.proofs.Rounds.Seats.{seat-unheld, Seated, Unseated, seat-of}
 
 module _ (r : Round) where
-  pub entries : entryTotal r ≡ sum (candidateCount r) (λ i. rowsOf r i .len)
-  unfolding rowBy
-  entries =
-      let lengths : List ℕ = map (λ c. length (c .row)) (r .candidates) in
-      sum-of lengths
-      ∙ ap (λ n. sum n (stateOf lengths)) (length-map (r .candidates) (λ c. length (c .row)))
-      ∙ sum-same (candidateCount r) (stateOf lengths) (λ i. length (rowAt r i)) (λ i l. List·getD-map (λ c. length (c .row)) (r .candidates) i noCandidate)
-
   pub start-running : Running r (replicate (candidateCount r) 0)
   start-running = record {
     each = length-replicate (candidateCount r) 0;
@@ -71,6 +54,10 @@ pub turn-sum : {r : Round} {state : List ℕ} {i : ℕ} → Running r state → 
     → sum (candidateCount r) (stateOf (advanced state i)) ≡ suc (sum (candidateCount r) (stateOf state))
 turn-sum {r} {state} {i} run may =
     turned-sum (candidateCount r) (may .inside) (set-turned state i (suc (getD state i 0)) (omega (arith, run .each)) refl)
+
+-- a turn is one offer more
+pub turn-offers : {r : Round} {state : List ℕ} {i : ℕ} → Running r state → MayTurn r state i → Lists.sum (advanced state i) ≡ suc (Lists.sum state)
+turn-offers run may = state-sum (turn-running run may) ∙ turn-sum run may ∙ ap suc (sym (state-sum run))
 
 abbrev pub ClosedIn : Round → List ℕ → Type 0
 ClosedIn r state = Closed (candidateCount r) (choiceOf r) (rowsOf r) (stateOf state)
@@ -107,6 +94,11 @@ module _ {types : ℕ} {r : Round} (sound : Sound types r) where
         none = s .none;
         more = ltb-true _ _ (and-snd (isNone (getD (seatsAfter r state) i noSeat)) _ t);
       }
+
+  -- and who has a turn may offer
+  pub turn-may : {state : List ℕ} → Running r state → (i : ℕ) → MayTurn r state i → mayOffer r state (seatsAfter r state) i ≡ true
+  unfolding mayOffer rowBy
+  turn-may {state} run i may = rw (seat-unheld sound run i (may .inside) (may .none)) (lt-ltb _ _ (may .more))
 
   -- who may not offer is served
   pub not-offer : {state : List ℕ} → Running r state → (i : ℕ) → i < candidateCount r → mayOffer r state (seatsAfter r state) i ≡ false
@@ -182,19 +174,11 @@ module _ {types : ℕ} {r : Round} (sound : Sound types r) where
   unfolding tried
   tried-final = turns-final (entryTotal r) (start-running r) (omega (arith, entries r))
 
-  -- the number of offers is that of the turns, and at most that of the entries
-  pub offers-counted : offersMade r ≡ sum (candidateCount r) (stateOf (tried r))
-  unfolding offersMade
-  offers-counted = sum-of (tried r) ∙ ap (λ n. sum n (stateOf (tried r))) (tried-running .each)
-
+  -- each turn is one offer: as many as turns, and at most as many as entries
   pub offers-turns : offersMade r ≡ AnyOrder.turns (tried-final .reached)
-  offers-turns = offers-counted ∙ sym (AnyOrder.turns-sum (tried-final .reached))
+  unfolding offersMade
+  offers-turns = state-sum tried-running ∙ sym (AnyOrder.turns-sum (tried-final .reached))
 
   pub offers-most : offersMade r ≤ entryTotal r
-  offers-most =
-      omega (
-        arith,
-        offers-counted,
-        entries r,
-        sum-le (candidateCount r) (stateOf (tried r)) (λ i. rowsOf r i .len) (λ i l. reached-fits (tried-final .reached) i),
-      )
+  unfolding offersMade
+  offers-most = state-most tried-running

@@ -19,7 +19,7 @@ use Rattle.allotment.specs.Rows.{rowAt, rankIn, entryOf, sameCategory}
 use Rattle.allotment.specs.Offers.{OfferSet, stepsOn}
 use Rattle.allotment.specs.Process.{candidateCount, instituteCount, madeTo, seatsAfter, mayOffer}
 use Rattle.allotment.specs.Stable.{given}
-use Rattle.allotment.proofs.Market.Tests.{or-case, or-right}
+use Rattle.allotment.proofs.Market.Tests.{same-test, or-case, or-right}
 use Rattle.allotment.proofs.Market.Update.{split-at}
 use Rattle.allotment.proofs.Market.Rows.{Ranked, offers-le}
 use Rattle.allotment.proofs.Market.Reached.{Turned, set-turned, turned-le}
@@ -30,7 +30,7 @@ use Rattle.allotment.proofs.Rounds.Institutes.{round-market}
 use Rattle.allotment.proofs.Rounds.Agreed.{same-steps-on}
 use Rattle.allotment.proofs.Rounds.Running.{stateOf, made, held, made-to, held-at, Running, one-at}
 use Rattle.allotment.proofs.Rounds.Process.{MayTurn, advanced, turn-running, may-offer}
-use Rattle.allotment.proofs.Rounds.Given.{same-test, given-held}
+use Rattle.allotment.proofs.Rounds.Given.{given-held}
 
 module _ (r : Round) (state : List ℕ) (i : ℕ) where
   -- the best untried entry of candidate i
@@ -81,8 +81,8 @@ module _ {types : ℕ} {r : Round} (sound : Sound types r) {state : List ℕ} (r
     abbrev category : Category
     category = newEntry r state i .category
 
-    hj : j < instituteCount r
-    hj = omega (arith, sound .candidate i hi .entry-to (getD state i 0) short)
+    pub institute-inside : j < instituteCount r
+    institute-inside = omega (arith, sound .candidate i hi .entry-to (getD state i 0) short)
 
     law : Ranked (rowsOf r i)
     law = rows-ranked r i (sound .candidate i hi)
@@ -110,7 +110,7 @@ module _ {types : ℕ} {r : Round} (sound : Sound types r) {state : List ℕ} (r
         go (inl g) =
             ap (λ (Y : OfferSet). Y p c) (made-to r (advanced state i) j)
             ∙ offers-le (rowsOf r) (stateOf state) (stateOf (advanced state i)) (turned-le turned) p (numberOf j c)
-            (round-market r sound .within (made r state) p (numberOf j c) (sym (given-held sound run p j hp hj c) ∙ g))
+            (round-market r sound .within (made r state) p (numberOf j c) (sym (given-held sound run p j hp institute-inside c) ∙ g))
         go (inr g) =
             new-made p c (eqb-true p i (and-fst (eqb p i) _ g)) (same-category category c (and-snd (eqb p i) _ g))
 
@@ -126,11 +126,11 @@ module _ {types : ℕ} {r : Round} (sound : Sound types r) {state : List ℕ} (r
         (or-right (held r state i (rowsOf r i .entry (getD state i 0))) _ (rw (eq-eqb i i refl) (eq-eqb (rowsOf r i .entry (getD state i 0)) _ refl)))
         p
         (numberOf j c)
-        (held-at r (advanced state i) p j c hp hj ∙ t)))
+        (held-at r (advanced state i) p j c hp institute-inside ∙ t)))
       where
         go : (held r state p (numberOf j c) ≡ true) ⊎ ((eqb p i && eqb (numberOf j c) (rowsOf r i .entry (getD state i 0))) ≡ true)
             → (given r (seatsAfter r state) j p c || (eqb p i && sameCategory category c)) ≡ true
-        go (inl h) = rw (given-held sound run p j hp hj c ∙ h)
+        go (inl h) = rw (given-held sound run p j hp institute-inside c ∙ h)
         go (inr h) =
             let same : category ≡ c = sym (number-same j j c category (eqb-true (numberOf j c) _ (and-snd (eqb p i) _ h) ∙ new-number) .1) in
             or-right (given r (seatsAfter r state) j p c) _ (rw (and-fst (eqb p i) _ h, same) (same-self c))
@@ -140,6 +140,6 @@ module _ {types : ℕ} {r : Round} (sound : Sound types r) {state : List ℕ} (r
         → stepsOn r j (madeTo r (advanced state i) j) ≡ stepsOn r j X
     turn-here X alike =
         sym
-        (same-steps-on r j (sound .institute j hj) X (madeTo r (advanced state i) j) (one-at sound next j hj)
+        (same-steps-on r j (sound .institute j institute-inside) X (madeTo r (advanced state i) j) (one-at sound next j institute-inside)
         (λ p hp c t. with-new-made p hp c (sym (alike p hp c) ∙ t))
         (λ p hp c t. alike p hp c ∙ held-with-new p hp c t))

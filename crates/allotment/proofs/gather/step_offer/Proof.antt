@@ -1,0 +1,14 @@
+-- `allotment::gather::step_offer` meets its contract. Assumes nothing.
+use mathlib.Core.Path.{_≡_, refl}
+use borrow.Author.Tests.{eq-eqb, ne-eqb}
+use Rattle.allotment.proofs.gather.step_offer.Statement.{statement}
+use Rattle.allotment.proofs.gather.step_offer.Tie as tie
+
+returns : tie.Need-returns
+returns c = rw (eq-eqb _ _ (c .if1 .taken))
+
+returns-2 : tie.Need-returns-2
+returns-2 c = rw (ne-eqb _ _ (c .if1 .left))
+
+pub step-offer-spec : {M : Type 1} → statement M
+step-offer-spec = tie.close (tie.spec returns returns-2)

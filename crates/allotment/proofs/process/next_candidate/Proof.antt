@@ -1,0 +1,68 @@
+-- `allotment::process::next_candidate` meets its contract: nobody below i has a turn. Assumes nothing.
+use Prim.Native.Nat.{ℕ, _-_, _≤_, _<_}
+use mathlib.Core.Path.{_≡_, sym, _∙_}
+use mathlib.Core.Bool.{false}
+use native.Mathlib.Omega.{arith}
+use lib.ListN.{length}
+use denote.Ref.{now}
+use borrow.Author.Count.{below-more}
+use Rattle.round.specs.Reading.{roundOf}
+use Rattle.round.proofs.Sound.{length-candidates}
+use Rattle.allotment.specs.Process.{candidateCount}
+use Rattle.allotment.specs.Turns.{mayTry}
+use Rattle.allotment.proofs.Turns.Going.{first-is, first-nobody}
+use borrow.Author.Needs.{needs}
+use Rattle.allotment.proofs.process.next_candidate.Statement.{statement}
+use Rattle.allotment.proofs.process.next_candidate.Tie as tie
+
+abbrev Inv-loop : tie.InvT-loop
+Inv-loop file candidates tried holders count i₀ i = (i ≤ count) × ((k : ℕ) → k < i → mayTry (roundOf file) tried holders k ≡ false)
+
+abbrev μ-loop : tie.MeasureT-loop
+μ-loop file candidates tried holders count i₀ i = count - i
+
+loop-holds : tie.Need-loop-holds Inv-loop μ-loop
+loop-holds c = (omega arith, λ k l. absurd (omega arith))
+
+may-try-requires : tie.Need-may-try-requires Inv-loop μ-loop
+may-try-requires c κs =
+    let pre = c .before .before .before .before .before .before .pre in (
+      record { accepted = pre .0; table = pre .1 .0; below = omega (arith, c .loop-test .taken, pre .1 .1) },
+      (c .loop-test .taken, omega (arith, c .loop-test .taken, pre .1 .1)),
+    )
+
+returns : tie.Need-returns Inv-loop μ-loop
+returns c =
+    let pre = c .before .before .before .before .before .before .before .before .pre in
+    first-is {n = candidateCount (roundOf (now (c .before .before .before .before .before .before .before .before .args .file)))}
+    (omega (arith, c .before .before .loop-test .taken, pre .1 .1 .0, length-candidates (now (c .before .before .before .before .before .before .before .before .args .file))))
+    (c .before .before .before .loop .inv .1)
+    (sym (c .before .may-try .ensures) ∙ c .if1 .taken)
+
+add-i : tie.Need-add-i Inv-loop μ-loop
+add-i c = search needs
+
+loop-less : tie.Need-loop-less Inv-loop μ-loop
+loop-less c = search needs
+
+loop-again : tie.Need-loop-again Inv-loop μ-loop
+loop-again c = (omega (arith, c .before .before .loop-test .taken), below-more _ _ (c .before .before .before .loop .inv .1) (sym (c .before .may-try .ensures) ∙ c .if1 .left))
+
+returns-2 : tie.Need-returns-2 Inv-loop μ-loop
+returns-2 c =
+    let pre = c .before .before .before .before .before .before .pre in
+    first-nobody (pre .1 .1 .0 ∙ sym (length-candidates (now (c .before .before .before .before .before .before .args .file)))) (c .before .loop .inv .1) (c .loop-test .left)
+
+pub next-candidate-spec : {M : Type 1} → statement M
+next-candidate-spec =
+    tie.close
+    (tie.spec
+    Inv-loop
+    μ-loop
+    loop-holds
+    may-try-requires
+    returns
+    add-i
+    loop-less
+    loop-again
+    returns-2)

@@ -1,0 +1,70 @@
+-- One turn of the process as the code takes it (document 01, "Offers"): the institute that gets the new offer chooses from what it holds and
+-- that offer. In a table an offer is one number: 0 for none, or one more than the code of its entry's category.
+use Prim.Native.Nat.{ℕ, suc, _-_, _<_, _≤_}
+use mathlib.Core.Path.{_≡_}
+use mathlib.Core.Bool.{Bool, cond, not, _&&_}
+use mathlib.Core.List.{List}
+use lib.Dec.{eqb, ltb}
+use lib.ListN.{length, getD, set}
+use Rattle.round.specs.declared.entry.Entry.{Entry}
+use Rattle.round.specs.Category.{codeOf}
+use Rattle.round.specs.Round.{Round}
+use Rattle.round.specs.Places.{candidateAt, instituteAt, entryAt}
+use Rattle.allotment.specs.Rows.{rowAt}
+use Rattle.allotment.specs.Offers.{OfferSet, candidateOn, placeOn, stepFor}
+use Rattle.allotment.specs.Process.{candidateCount}
+
+-- held by no institute, by the table of holders, and with an untried entry
+unfoldable pub mayTry : Round → List ℕ → List ℕ → ℕ → Bool
+mayTry r tried holders i = eqb (getD holders i 0) 0 && ltb (getD tried i 0) (length (rowAt r i))
+
+-- the offer that a seat at a step stands for: open for step 6
+abbrev pub stepOffer : ℕ → ℕ
+stepOffer k = cond (eqb k 6) 1 k
+
+-- candidate c's offer to the institute with a number, where candidate i makes a new one: i's is the new one, any other that of c's seat there
+unfoldable pub offerOf : ℕ → ℕ → ℕ → List ℕ → List ℕ → ℕ → ℕ
+offerOf number i new holders steps c =
+    cond (eqb c i) new (cond (eqb (getD holders c 0) number) (stepOffer (getD steps c 0)) 0)
+
+-- the marks of candidate c
+unfoldable pub marksOf : Round → ℕ → ℕ
+marksOf r c = candidateAt r c .marks
+
+-- the set of offers that such numbers make
+unfoldable pub offersBy : (ℕ → ℕ) → OfferSet
+offersBy offer i c = eqb (offer i) (suc (codeOf c))
+
+-- the holder by a step of the institute with a number: none by step 0
+abbrev pub holderBy : ℕ → ℕ → ℕ
+holderBy number step = cond (eqb step 0) 0 number
+
+module _ (r : Round) (j : ℕ) where
+  -- a table has a number of the candidate at each of the first places of institute j's merit list
+  pub record Gathered (value : ℕ → ℕ) (count : ℕ) (table : List ℕ) : Type 0 where
+    pub many : length table ≡ length (instituteAt r j .merit)
+    pub number : (p : ℕ) → p < count → getD table p 0 ≡ value (candidateOn r j p)
+
+  -- candidate c stands at one of the first places of institute j's merit list and has an offer
+  unfoldable pub takesPart : (ℕ → ℕ) → ℕ → ℕ → Bool
+  takesPart offer count c = ltb (placeOn r j c) count && not (eqb (offer c) 0)
+
+  -- the seats after a choice of institute j: who takes part has the step chosen there, everybody else the seat from before
+  pub record Scattered (offer chosen : ℕ → ℕ) (count : ℕ) (holders₀ steps₀ holders steps : List ℕ) : Type 0 where
+    pub holders-many : length holders ≡ length holders₀
+    pub steps-many : length steps ≡ length steps₀
+    pub holder : (c : ℕ) → c < candidateCount r → getD holders c 0 ≡ cond (takesPart offer count c) (holderBy (suc j) (chosen c)) (getD holders₀ c 0)
+    pub step : (c : ℕ) → c < candidateCount r → getD steps c 0 ≡ cond (takesPart offer count c) (chosen c) (getD steps₀ c 0)
+
+  -- institute j has chosen from what it holds and candidate i's new offer
+  unfoldable pub ChosenAnew : ℕ → ℕ → List ℕ → List ℕ → List ℕ → List ℕ → Type 0
+  ChosenAnew i new holders₀ steps₀ holders steps =
+      let offer : ℕ → ℕ = offerOf (suc j) i new holders₀ steps₀ in
+      Scattered offer (stepFor r j (offersBy offer)) (length (instituteAt r j .merit)) holders₀ steps₀ holders steps
+
+-- candidate i has offered the best untried entry, and its institute has chosen
+pub record TurnTaken (r : Round) (i : ℕ) (tried₀ holders₀ steps₀ tried holders steps : List ℕ) : Type 0 where
+  pub one-more : tried ≡ set tried₀ i (suc (getD tried₀ i 0))
+  pub anew :
+      let entry : Entry = entryAt (candidateAt r i) (getD tried₀ i 0) in
+      ChosenAnew r (entry .institute - 1) i (suc (codeOf (entry .category))) holders₀ steps₀ holders steps

@@ -1,0 +1,28 @@
+// Tables of bytes, with one for each candidate or for each place of a merit list.
+ghost use mathlib.Core.Path.{_≡_};
+ghost use Prim.Native.Nat.{_<_};
+ghost use lib.ListN.{length, replicate};
+
+// A table of zeros.
+pub fn zeros() -> [u8; 512]
+    ensures { λ r. ⌜ r ≡ replicate 512 0 ⌝ }
+{
+    [0; 512]
+}
+
+// Makes each byte 0.
+pub fn clear(table: &mut [u8])
+    ensures { λ _. ⌜ now (table .exit) ≡ replicate (length (now (table .entry))) 0 ⌝ }
+{
+    for k in 0..table.len() {
+        table[k] = 0;
+    }
+}
+
+// A small number as a byte.
+pub fn narrow(x: usize) -> u8
+    requires { ⌜ x < 256 ⌝ }
+    ensures { λ r. ⌜ r ≡ x ⌝ }
+{
+    x as u8
+}

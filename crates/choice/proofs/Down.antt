@@ -1,0 +1,197 @@
+-- The way down the merit list: what is known at place p, and how it goes on when the place is not considered, is placed, or
+-- is searched for in vain.
+use Prim.Native.Nat.{ℕ, zero, suc, _+_, _≤_, _<_}
+use mathlib.Core.Path.{_≡_, refl, sym, ap, subst, _∙_}
+use mathlib.Core.Bool.{Bool, true, false}
+use mathlib.Core.List.{List}
+use native.Mathlib.Omega.{arith}
+use lib.Dec.{eqb, ltb}
+use lib.ListN.{length, getD, replicate, length-replicate, getD-replicate, List·getD-eq-default}
+use borrow.Author.Tests.{eq-eqb, eqb-true, ne-eqb, lt-ltb, le-ltb, ltb-true}
+use Rattle.round.specs.Lists.{count}
+use Rattle.choice.specs.Use.{holds, Placing}
+use Rattle.choice.specs.Step.{raises, takenForUse}
+use Rattle.choice.specs.Search.{atType, Moved, Stuck, Searched}
+use Rattle.choice.specs.Taken.{Attempted, Took}
+use Rattle.choice.proofs.Counting.{lessOr, sameOr, count-le}
+use Rattle.choice.proofs.Counts.{count-more, count-within, count-rest, bit-true, bit-false}
+use Rattle.choice.proofs.Use.{placed, PlacingTo, placed-raises}
+use Rattle.choice.proofs.Tight.{placed-blocked}
+use Rattle.choice.proofs.Taking.{takenForUse-considered, takenBefore-placed}
+
+-- just those taken below p have a type; the exhausted types are full, and who is placed at one holds exhausted types only
+pub record Down (reserved marks : List ℕ) (considered : ℕ → Bool) (placed exhausted : List ℕ) (n p : ℕ) : Type 0 where
+  pub placing : Placing reserved marks placed
+  pub each : (q : ℕ) → q < p → takenForUse reserved marks considered q ≡ ltb 0 (getD placed q 0)
+  pub rest : (q : ℕ) → p ≤ q → getD placed q 0 ≡ 0
+  pub number : n ≡ count p (takenForUse reserved marks considered)
+  pub full : (t : ℕ) → 0 < getD exhausted t 0 → getD reserved t 0 ≤ atType placed t
+  pub closed : (q t u : ℕ) → 0 < getD exhausted t 0 → getD placed q 0 ≡ suc t → u < length reserved
+      → holds (getD marks q 0) u ≡ true → 0 < getD exhausted u 0
+
+-- what a search says of the list that its visited types start from
+pub attempted-found : (reserved marks : List ℕ) {v e v′ b a : List ℕ} (c : ℕ) {r : Bool} → Searched reserved marks v v′ b a c r → v ≡ e → r ≡ true
+    → Attempted reserved marks e e b a c true
+attempted-found reserved marks {v} {e} {v′} {b} {a} c s same r = record {
+  found = λ t. subst (λ (l : List ℕ). Moved reserved marks l b a c) same (s .found r);
+  spared = λ t. refl;
+  stuck = λ f. absurd (never f);
+}
+  where
+    never : true ≡ false → ⊥
+    never f = let z : _≡_ {A = ℕ} 0 1 = cc in omega arith
+
+pub attempted-stuck : (reserved marks : List ℕ) {v e v′ e′ b a : List ℕ} (c : ℕ) {r : Bool} → Searched reserved marks v v′ b a c r → v ≡ e → e′ ≡ v′
+    → r ≡ false → Attempted reserved marks e e′ b a c false
+attempted-stuck reserved marks {v} {e} {v′} {e′} {b} {a} c s same copied r = record {
+  found = λ t. absurd (never t);
+  spared = λ t. absurd (never t);
+  stuck = λ f.
+      subst (λ (l : List ℕ). Stuck reserved marks e l b a c) (sym copied)
+      (subst (λ (l : List ℕ). Stuck reserved marks l v′ b a c) same (s .stuck r));
+}
+  where
+    never : false ≡ true → ⊥
+    never f = let z : _≡_ {A = ℕ} 0 1 = cc in omega arith
+
+pub no-type : (n : ℕ) (l : List ℕ) (q : ℕ) → l ≡ replicate n 0 → getD l q 0 ≡ 0
+no-type n l q e =
+    rw e
+    (lessOr q n (λ b. getD-replicate n q 0 0 b)
+    (λ h. List·getD-eq-default (replicate n 0) 0 (omega (arith, length-replicate n zero))))
+
+module _ (reserved marks : List ℕ) (X : ℕ → Bool) where
+  abbrev H : ℕ → Bool
+  H = takenForUse reserved marks X
+
+  -- .. said of what is the same
+  pub down-by : {l l₁ e e₁ : List ℕ} {n n₁ : ℕ} (p : ℕ) → l ≡ l₁ → e ≡ e₁ → n ≡ n₁ → Down reserved marks X l₁ e₁ n₁ p → Down reserved marks X l e n p
+  down-by p el ee en d = rw (el, ee, en) d
+
+  pub top : (placed exhausted : List ℕ) → placed ≡ replicate (length marks) 0 → ((t : ℕ) → getD exhausted t 0 ≡ 0)
+      → Down reserved marks X placed exhausted 0 0
+  top placed exhausted empty none = record {
+    placing = record {
+      each = ap length empty ∙ length-replicate (length marks) zero;
+      held = λ i t l e. absurd (clash i t e);
+      within = λ t l. omega (arith, count-rest 0 (length placed) (λ q. eqb (getD placed q 0) (suc t)) (λ q l. ne-eqb _ _ (clash q t)));
+    };
+    each = λ q l. absurd (omega arith);
+    rest = λ q l. no-type (length marks) placed q empty;
+    number = refl;
+    full = λ t v. absurd (seen t v);
+    closed = λ q t u v. absurd (seen t v);
+  }
+    where
+      clash : (q t : ℕ) → getD placed q 0 ≡ suc t → ⊥
+      clash q t e = omega (arith, no-type (length marks) placed q empty)
+
+      seen : (t : ℕ) → 0 < getD exhausted t 0 → ⊥
+      seen t v = omega (arith, none t)
+
+  -- the end of the list is reached
+  pub bottom : (placed exhausted : List ℕ) (n p : ℕ) → p ≡ length marks → Down reserved marks X placed exhausted n p → Took reserved marks placed X n
+  bottom placed exhausted n p end d = record {
+    each = λ q l. d .each q (omega arith);
+    number = d .number ∙ ap (λ (k : ℕ). count k H) end;
+  }
+
+  module _ (placed₀ exhausted : List ℕ) (n p : ℕ) (inside : p < length marks) (d : Down reserved marks X placed₀ exhausted n p) where
+    unplaced : ltb 0 (getD placed₀ p 0) ≡ false
+    unplaced = le-ltb 0 (getD placed₀ p 0) (omega (arith, d .rest p (omega arith)))
+
+    -- the place is not considered
+    pub passed : X p ≡ false → Down reserved marks X placed₀ exhausted n (p + 1)
+    passed out = record {
+      placing = d .placing;
+      each = λ q l. sameOr q p (λ s. rw s (left ∙ sym unplaced)) (λ o. d .each q (omega arith));
+      rest = λ q l. d .rest q (omega arith);
+      number = omega (arith, count-more H p n 0 (d .number) (bit-false left));
+      full = d .full;
+      closed = d .closed;
+    }
+      where
+        left : H p ≡ false
+        left = unfold takenForUse in rw out
+
+    by-places : (l : List ℕ) (k : ℕ) → k ≤ length marks → Placing reserved marks l → PlacingTo reserved (λ q. getD l q 0) (λ q. getD marks q 0) k
+    by-places l k h pl = record {
+      held = λ q t b e. pl .held q t (omega arith) e;
+      within = λ t b. omega (arith, pl .within t b, pl .each, count-within k (length l) (λ q. eqb (getD l q 0) (suc t)) (omega (arith, pl .each)));
+    }
+
+    -- a considered place is taken when it raises the use of those who have a type
+    raised : (l : List ℕ) → ((q : ℕ) → q < p → H q ≡ ltb 0 (getD l q 0)) → X p ≡ true
+        → H p ≡ raises reserved (placed (λ q. getD l q 0) (λ q. getD marks q 0) p) (getD marks p 0)
+    raised l each in-play =
+        takenForUse-considered reserved marks X p in-play
+        ∙ ap (λ (A : List ℕ). raises reserved A (getD marks p 0)) (takenBefore-placed reserved marks X (λ q. getD l q 0) p each)
+
+    -- it is placed
+    pub placed-one : (placed′ : List ℕ) → X p ≡ true → Moved reserved marks exhausted placed₀ placed′ p
+        → Down reserved marks X placed′ exhausted (n + 1) (p + 1)
+    placed-one placed′ in-play m = record {
+      placing = m .placing;
+      each = λ q l. sameOr q p (λ s. rw s (taken ∙ sym (lt-ltb 0 _ (m .reached)))) (λ o. same q (omega arith));
+      rest = λ q l. m .apart q (λ s. omega arith) (d .rest q (omega arith));
+      number = count-more H p n 1 (d .number) (bit-true taken);
+      full = λ t v. omega (arith, d .full t v, more t v);
+      closed = λ q t u v e. d .closed q t u v (m .comes q t v e .0);
+    }
+      where
+        same : (q : ℕ) → q < p → H q ≡ ltb 0 (getD placed′ q 0)
+        same q l =
+            d .each q l
+            ∙ lessOr 0 (getD placed₀ q 0) (λ h. lt-ltb 0 _ h ∙ sym (lt-ltb 0 _ (m .kept q h)))
+            (λ h. le-ltb 0 _ h ∙ sym (le-ltb 0 (getD placed′ q 0) (omega (arith, m .apart q (λ s. omega arith) (omega arith)))))
+
+        taken : H p ≡ true
+        taken =
+            raised placed′ same in-play
+            ∙ placed-raises reserved (λ q. getD placed′ q 0) (λ q. getD marks q 0) p (by-places placed′ (suc p) (omega arith) (m .placing)) (m .reached)
+
+        sizes : length placed₀ ≡ length placed′
+        sizes = d .placing .each ∙ sym (m .placing .each)
+
+        more : (t : ℕ) → 0 < getD exhausted t 0 → atType placed₀ t ≤ atType placed′ t
+        more t v =
+            rw sizes
+            (count-le (length placed′) (λ q. eqb (getD placed₀ q 0) (suc t)) (λ q. eqb (getD placed′ q 0) (suc t))
+            (λ q l e. eq-eqb _ _ (m .stays q t (λ s. away q t s (eqb-true _ _ e)) v (eqb-true _ _ e))))
+          where
+            away : (q t : ℕ) → q ≡ p → getD placed₀ q 0 ≡ suc t → ⊥
+            away q t s e = omega (arith, d .rest q (omega arith))
+
+    -- the search for it is in vain
+    pub passed-by : (placed′ exhausted′ : List ℕ) → X p ≡ true → Stuck reserved marks exhausted exhausted′ placed₀ placed′ p
+        → Down reserved marks X placed′ exhausted′ n (p + 1)
+    passed-by placed′ exhausted′ in-play s =
+        subst (λ (l : List ℕ). Down reserved marks X l exhausted′ n (p + 1)) (sym (s .same))
+        record {
+          placing = d .placing;
+          each = λ q l. sameOr q p (λ e. rw e (left ∙ sym unplaced)) (λ o. d .each q (omega arith));
+          rest = λ q l. d .rest q (omega arith);
+          number = omega (arith, count-more H p n 0 (d .number) (bit-false left));
+          full = full;
+          closed = closed;
+        }
+      where
+        full : (t : ℕ) → 0 < getD exhausted′ t 0 → getD reserved t 0 ≤ atType placed₀ t
+        full t v = lessOr 0 (getD exhausted t 0) (λ h. d .full t h) (λ h. s .full t v (omega arith))
+
+        closed : (q t u : ℕ) → 0 < getD exhausted′ t 0 → getD placed₀ q 0 ≡ suc t → u < length reserved
+            → holds (getD marks q 0) u ≡ true → 0 < getD exhausted′ u 0
+        closed q t u v e l h =
+            lessOr 0 (getD exhausted t 0) (λ k. s .more u (d .closed q t u k e l h)) (λ k. s .closed q t u v (omega arith) e l h)
+
+        left : H p ≡ false
+        left =
+            raised placed₀ (d .each) in-play
+            ∙ placed-blocked reserved (λ q. getD placed₀ q 0) (λ q. getD marks q 0) p (getD marks p 0) (λ t. ltb 0 (getD exhausted′ t 0))
+            (by-places placed₀ p (omega arith) (d .placing))
+            (λ t l v. omega (arith, full t (ltb-true _ _ v), count-rest p (length placed₀) (λ q. eqb (getD placed₀ q 0) (suc t)) (λ q h. ne-eqb _ _ (away q t h))))
+            (λ q t u l e v b h. lt-ltb 0 _ (closed q t u (ltb-true _ _ v) e b h))
+            (λ u l h. lt-ltb 0 _ (s .own u l h))
+          where
+            away : (q t : ℕ) → p ≤ q → getD placed₀ q 0 ≡ suc t → ⊥
+            away q t h e = omega (arith, d .rest q h)

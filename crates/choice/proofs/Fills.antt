@@ -1,0 +1,95 @@
+-- Filling by merit, one place after the other: what is known at place p, and how it goes on in each case.
+use Prim.Native.Nat.{ℕ, _+_, _-_, _<_}
+use mathlib.Core.Path.{_≡_, refl, sym, ap}
+use mathlib.Core.Bool.{Bool, true, false, cond, not, _&&_}
+use mathlib.Core.List.{List}
+use native.Mathlib.Omega.{arith}
+use lib.Dec.{eqb, ltb}
+use lib.ListN.{length, getD, set}
+use borrow.Author.Tests.{lt-ltb, le-ltb}
+use Rattle.round.specs.Lists.{count, bit}
+use Rattle.choice.specs.Offers.{considersBy}
+use Rattle.choice.specs.Fill.{restAt, seatsAt}
+use Rattle.choice.proofs.Counts.{count-more, bit-true, bit-false}
+use Rattle.choice.proofs.Written.{Written, begin, write, keep}
+
+-- what a place holds after the step
+abbrev pub seated : ℕ → ℕ → ℕ → List ℕ → List ℕ → List ℕ → ℕ → ℕ
+seated number wanted free offers placed given q =
+    cond (seatsAt placed (considersBy offers given wanted) free q) number (getD given q 0)
+
+-- the places below p hold what they hold after the step; of the free positions those are vacant that the rest below p leave
+pub record Filled (number wanted free : ℕ) (offers placed given steps : List ℕ) (vacant p : ℕ) : Type 0 where
+  pub vacancy : vacant ≡ free - count p (restAt placed (considersBy offers given wanted))
+  pub written : Written given steps (seated number wanted free offers placed given) p
+
+and-false : (b : Bool) → (b && false) ≡ false
+and-false true = refl
+and-false false = refl
+
+module _ (number wanted free : ℕ) (offers placed given : List ℕ) where
+  abbrev X : ℕ → Bool
+  X = considersBy offers given wanted
+
+  abbrev rest : ℕ → Bool
+  rest = restAt placed X
+
+  -- .. said of what is the same
+  pub filled-by : {l l₁ : List ℕ} {v v₁ : ℕ} (p : ℕ) → l ≡ l₁ → v ≡ v₁ → Filled number wanted free offers placed given l₁ v₁ p
+      → Filled number wanted free offers placed given l v p
+  filled-by p el ev k = rw (el, ev) k
+
+  pub none-filled : Filled number wanted free offers placed given given free 0
+  none-filled = record { vacancy = omega arith; written = begin given _ }
+
+  module _ (steps : List ℕ) (vacant p : ℕ) (inside : p < length given)
+      (k : Filled number wanted free offers placed given steps vacant p) where
+    one-more : (b : ℕ) → bit (rest p) ≡ b → count p rest + b ≡ count (p + 1) rest
+    one-more b e = count-more rest p (count p rest) b refl e
+
+    -- the test of the steps as they are is that of the steps given
+    pub considered : considersBy offers steps wanted p ≡ X p
+    considered = ap (λ (x : ℕ). eqb (getD offers p 0) wanted && eqb x 0) (k .written .above p (omega arith))
+
+    -- it has a type
+    pub by-type : 0 < getD placed p 0 → Filled number wanted free offers placed given (set steps p number) vacant (p + 1)
+    by-type l =
+        let typed : ltb 0 (getD placed p 0) ≡ true = lt-ltb 0 _ l in
+        let out : rest p ≡ false = rw typed (and-false (X p)) in
+        record {
+          vacancy = omega (arith, k .vacancy, one-more 0 (bit-false out));
+          written = write given steps _ p number inside (k .written) (rw typed);
+        }
+
+    module _ (none : getD placed p 0 ≡ 0) where
+      untyped : ltb 0 (getD placed p 0) ≡ false
+      untyped = le-ltb 0 (getD placed p 0) (omega arith)
+
+      -- it gets a position by merit
+      pub by-merit : X p ≡ true → 0 < vacant → Filled number wanted free offers placed given (set steps p number) (vacant - 1) (p + 1)
+      by-merit in-play l =
+          let left : rest p ≡ true = rw (untyped, in-play) in
+          let room : ltb (count p rest) free ≡ true = lt-ltb (count p rest) free (omega (arith, k .vacancy)) in
+          record {
+            vacancy = omega (arith, k .vacancy, one-more 1 (bit-true left));
+            written = write given steps _ p number inside (k .written) (rw (untyped, in-play, room));
+          }
+
+      -- it is not considered
+      pub left-out : X p ≡ false → Filled number wanted free offers placed given steps vacant (p + 1)
+      left-out out =
+          let gone : rest p ≡ false = rw out in
+          record {
+            vacancy = omega (arith, k .vacancy, one-more 0 (bit-false gone));
+            written = keep given steps _ p (k .written) (rw (untyped, out));
+          }
+
+      -- no position is free
+      pub no-room : vacant ≡ 0 → Filled number wanted free offers placed given steps vacant (p + 1)
+      no-room z =
+          let full : ltb (count p rest) free ≡ false = le-ltb (count p rest) free (omega (arith, k .vacancy)) in
+          let nobody : seatsAt placed X free p ≡ false = rw (untyped, full) (and-false (X p && true)) in
+          record {
+            vacancy = omega (arith, k .vacancy, one-more (bit (rest p)) refl);
+            written = keep given steps _ p (k .written) (sym (ap (λ (b : Bool). cond b number (getD given p 0)) nobody));
+          }

@@ -1,0 +1,140 @@
+-- One step: the places with a type and the rest that fill are those that the step takes.
+use Prim.Native.Nat.{ℕ, zero, suc, _+_, _-_, _≤_, _<_}
+use mathlib.Core.Path.{_≡_, refl, sym, ap, _∙_}
+use mathlib.Core.Bool.{Bool, true, false, cond, not, _&&_, _||_}
+use mathlib.Core.List.{List, _++_}
+use native.Mathlib.Omega.{arith}
+use lib.Dec.{ltb}
+use lib.ListN.{length, getD, take, drop, replicate, length-replicate}
+use lib.Seq.{take-at, length-take-le}
+use borrow.Author.Tests.{lt-ltb, le-ltb}
+use Rattle.round.specs.Lists.{count, bit, tabulate, tabulateFrom}
+use Rattle.round.specs.declared.entry.Category.{Category}
+use Rattle.round.specs.declared.entry.Category.the-variants.{Open, SC, ST, OBC, EWS}
+use Rattle.round.specs.Category.{codeOf}
+use Rattle.round.specs.Questions.{positionsIn, reservedIn}
+use Rattle.choice.specs.Offers.{considersBy}
+use Rattle.choice.specs.Step.{takenForUse, remaining, takenByMerit, taken}
+use Rattle.choice.specs.Taken.{Took}
+use Rattle.choice.specs.Fill.{restAt, fillsAt, seatsAt, numbered, stepGiven, stepVacant, ownGiven, ownVacant}
+use Rattle.choice.proofs.Counting.{lessOr, count-ext}
+
+-- a part of a list of the same
+pub take-replicate : (k n : ℕ) → k ≤ n → take k (replicate n zero) ≡ replicate k zero
+take-replicate zero zero h = refl
+take-replicate zero (suc n) h = refl
+take-replicate (suc k) zero h = absurd (omega arith)
+take-replicate (suc k) (suc n) h = rw (take-replicate k n (omega arith))
+
+-- the front of a list, after it was lent and has come back
+pub front-back : (d e : List ℕ) (n : ℕ) → n ≤ length d → length e ≡ length (take n d) → take n (e ++ drop n d) ≡ e
+front-back d e n h len = take-at e (drop n d) n (len ∙ length-take-le n d h)
+
+from-same : (i n : ℕ) (F G : ℕ → ℕ) → ((q : ℕ) → q < i + n → F q ≡ G q) → tabulateFrom i n F ≡ tabulateFrom i n G
+from-same i zero F G h = refl
+from-same i (suc n) F G h = rw (h i (omega arith), from-same (suc i) n F G (λ q l. h q (omega arith)))
+
+pub numbered-same : (n number : ℕ) (X Y : ℕ → Bool) (given : List ℕ) → ((q : ℕ) → q < n → X q ≡ Y q) → numbered n number X given ≡ numbered n number Y given
+numbered-same n number X Y given h =
+    from-same 0 n _ _ (λ q l. ap (λ (b : Bool). cond b number (getD given q 0)) (h q (omega arith)))
+
+-- a position is left after h and k
+left-test : (h k positions : ℕ) → ltb k (positions - h) ≡ ltb (h + k) positions
+left-test h k positions =
+    lessOr (h + k) positions (λ l. lt-ltb k (positions - h) (omega arith) ∙ sym (lt-ltb (h + k) positions l))
+    (λ l. le-ltb k (positions - h) (omega arith) ∙ sym (le-ltb (h + k) positions l))
+
+-- of the rest as many fill as leave nothing that the rest would not
+left-same : (R : ℕ → Bool) (h positions n : ℕ)
+    → (count n (λ p. R p && ltb (h + count p R) positions) ≤ count n R)
+    × (positions - (h + count n (λ p. R p && ltb (h + count p R) positions)) ≡ positions - (h + count n R))
+left-same R h positions zero = (omega arith, refl)
+left-same R h positions (suc n) = go (left-same R h positions n) (R n) refl
+  where
+    go : (count n (λ p. R p && ltb (h + count p R) positions) ≤ count n R)
+        × (positions - (h + count n (λ p. R p && ltb (h + count p R) positions)) ≡ positions - (h + count n R))
+        → (b : Bool) → R n ≡ b
+        → (count (suc n) (λ p. R p && ltb (h + count p R) positions) ≤ count (suc n) R)
+        × (positions - (h + count (suc n) (λ p. R p && ltb (h + count p R) positions)) ≡ positions - (h + count (suc n) R))
+    go k true e =
+        rw e
+        (lessOr (h + count n R) positions (λ l. rw (lt-ltb (h + count n R) positions l) (omega (arith, k .0, k .1)))
+        (λ l. rw (le-ltb (h + count n R) positions l) (omega (arith, k .0, k .1))))
+    go k false e = rw e (omega (arith, k .0, k .1))
+
+count-sum : (n : ℕ) (A B C : ℕ → Bool) → ((p : ℕ) → bit (A p) ≡ bit (B p) + bit (C p)) → count n A ≡ count n B + count n C
+count-sum zero A B C h = refl
+count-sum (suc n) A B C h = omega (arith, h n, count-sum n A B C h)
+
+module _ (reserved marks placed : List ℕ) (X : ℕ → Bool) (positions used : ℕ) (k : Took reserved marks placed X used) where
+  abbrev H : ℕ → Bool
+  H = takenForUse reserved marks X
+
+  abbrev n : ℕ
+  n = length marks
+
+  rest-same : (q : ℕ) → q < n → restAt placed X q ≡ remaining reserved marks X q
+  rest-same q l = unfold remaining in ap (λ (b : Bool). X q && not b) (sym (k .each q l))
+
+  fills-same : (p : ℕ) → p < n → fillsAt placed X (positions - used) p ≡ takenByMerit reserved marks X positions p
+  fills-same p l =
+      unfold takenByMerit in
+      rw (
+        rest-same p l,
+        count-ext p (restAt placed X) (remaining reserved marks X) (λ q b. rest-same q (omega arith)),
+        k .number,
+        left-test (count n H) (count p (remaining reserved marks X)) positions,
+      )
+
+  pub seats-same : (p : ℕ) → p < n → seatsAt placed X (positions - used) p ≡ taken reserved marks X positions p
+  seats-same p l = unfold taken in rw (fills-same p l, sym (k .each p l))
+
+  split : (p : ℕ) → bit (taken reserved marks X positions p) ≡ bit (H p) + bit (takenByMerit reserved marks X positions p)
+  split p = unfold taken takenByMerit remaining in apart (H p) (X p) _
+    where
+      apart : (a x l : Bool) → bit (a || ((x && not a) && l)) ≡ bit a + bit ((x && not a) && l)
+      apart true true l = refl
+      apart true false l = refl
+      apart false x l = omega arith
+
+  pub vacant-same : (free vacant : ℕ) → free ≡ positions - used → vacant ≡ free - count n (restAt placed X)
+      → vacant ≡ stepVacant reserved marks X positions
+  vacant-same free vacant f v =
+      omega (
+        arith,
+        k .number,
+        count-sum n (taken reserved marks X positions) H (takenByMerit reserved marks X positions) split,
+        count-ext n (restAt placed X) (remaining reserved marks X) rest-same,
+        merit,
+      )
+    where
+      merit : positions - (count n H + count n (takenByMerit reserved marks X positions)) ≡ positions - (count n H + count n (remaining reserved marks X))
+      merit = unfold takenByMerit in left-same (remaining reserved marks X) (count n H) positions n .1
+
+-- what filling says of the types and the positions left is what the step says
+pub step-done : (reserved marks placed placed′ given steps : List ℕ) (X : ℕ → Bool) (number positions used free vacant : ℕ)
+    → Took reserved marks placed X used → placed′ ≡ placed → length given ≡ length marks → free ≡ positions - used
+    → steps ≡ numbered (length given) number (seatsAt placed′ X free) given → vacant ≡ free - count (length given) (restAt placed′ X)
+    → (steps ≡ stepGiven number reserved marks X positions given) × (vacant ≡ stepVacant reserved marks X positions)
+step-done reserved marks placed placed′ given steps X number positions used free vacant k same len left s v = (
+  rw (same, len, left) at s ∙ numbered-same (length marks) number _ _ given (seats-same reserved marks placed X positions used k),
+  vacant-same reserved marks placed X positions used k free vacant left (rw (same, len) at v),
+)
+
+pub sized : (n : ℕ) {l : List ℕ} → l ≡ replicate n zero → length l ≡ n
+sized n e = ap length e ∙ length-replicate n zero
+
+pub code-small : (x : Category) → codeOf x ≤ 4
+code-small Open = omega arith
+code-small SC = omega arith
+code-small ST = omega arith
+code-small OBC = omega arith
+code-small EWS = omega arith
+
+-- what a step says at the numbers read from a body
+pub own-done : (types : ℕ) (body : List ℕ) (code : ℕ) (marks offers given steps : List ℕ) {reserved : List ℕ} {number positions vacant : ℕ}
+    → reserved ≡ tabulate types (reservedIn types body code) → number ≡ suc code → positions ≡ positionsIn types body code
+    → (steps ≡ stepGiven number reserved marks (considersBy offers given number) positions given)
+    × (vacant ≡ stepVacant reserved marks (considersBy offers given number) positions)
+    → (steps ≡ ownGiven types body code marks offers given) × (vacant ≡ ownVacant types body code marks offers given)
+own-done types body code marks offers given steps er en ep h = rw (er, en, ep) at h

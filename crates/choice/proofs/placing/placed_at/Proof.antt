@@ -1,0 +1,79 @@
+-- `choice::placing::placed_at` meets its contract: the loop keeps the count of the places passed. Assumes nothing.
+use Prim.Native.Nat.{ℕ, suc, _+_, _≤_, _-_}
+use mathlib.Core.Path.{_≡_, refl, subst}
+use mathlib.Core.Bool.{Bool}
+use Rattle.choice.proofs.Counts.{count-more, bit-true, bit-false}
+use mathlib.Core.Logic.{⊎-elim}
+use lib.Dec.{eqb}
+use lib.ListN.{length, getD}
+use native.Mathlib.Omega.{arith}
+use Rattle.round.specs.Lists.{count}
+use borrow.Author.Tests.{eq-eqb, ne-eqb}
+use borrow.Author.Needs.{needs}
+use Rattle.choice.proofs.placing.placed_at.Statement.{statement}
+use Rattle.choice.proofs.placing.placed_at.Tie as tie
+
+abbrev Inv-loop : tie.InvT-loop
+Inv-loop placed t n₀ p₀ p-end n p = (p ≤ length placed) × (p-end ≡ length placed) × (n ≤ p) × (n ≡ count p (λ q. eqb (getD placed q 0) (suc t)))
+
+abbrev μ-loop : tie.MeasureT-loop
+μ-loop placed t n₀ p₀ p-end n p = length placed - p
+
+loop-holds : tie.Need-loop-holds Inv-loop μ-loop
+loop-holds c = search needs
+
+shared-slice-read-wide : tie.Need-shared-slice-read-wide Inv-loop μ-loop
+shared-slice-read-wide c = search needs
+
+wide-requires : tie.Need-wide-requires Inv-loop μ-loop
+wide-requires c κs = search needs
+
+add-if1 : tie.Need-add-if1 Inv-loop μ-loop
+add-if1 c = search needs
+
+add-n : tie.Need-add-n Inv-loop μ-loop
+add-n c = search needs
+
+add-p : tie.Need-add-p Inv-loop μ-loop
+add-p c = search needs
+
+loop-less : tie.Need-loop-less Inv-loop μ-loop
+loop-less c = search needs
+
+loop-again : tie.Need-loop-again Inv-loop μ-loop
+loop-again c =
+    let q = c .before .before .before .before .loop .p in
+    let here = c .before .before .before .before .before .before .args in
+    let X : ℕ → Bool = λ i. eqb (getD (here .placed .now) i 0) (suc (here .t)) in
+    let n = c .before .before .before .before .loop .n in
+    let so-far : n ≡ count q X = c .before .before .before .before .loop .inv .3 in
+    let byte : c .before .wide .result ≡ getD (here .placed .now) q 0 = c .before .wide .ensures .0 in
+    ⊎-elim
+    (λ w.
+    let more : n + 1 ≡ count (q + 1) X = count-more X q n 1 so-far (bit-true (eq-eqb (getD (here .placed .now) q 0) (suc (here .t)) (omega (arith, w .0 .taken)))) in
+    (omega arith, refl, omega arith, omega arith))
+    (λ w.
+    let more : n + 0 ≡ count (q + 1) X = count-more X q n 0 so-far (bit-false (ne-eqb (getD (here .placed .now) q 0) (suc (here .t)) (λ e. w .0 .left (omega arith)))) in
+    (omega arith, refl, omega arith, omega arith))
+    (c .if1 .came)
+
+returns : tie.Need-returns Inv-loop μ-loop
+returns c =
+    let at : c .before .loop .p ≡ length (c .before .before .before .args .placed .now) = omega arith in
+    subst (λ (k : ℕ). c .before .loop .n ≡ count k (λ q. eqb (getD (c .before .before .before .args .placed .now) q 0) (suc (c .before .before .before .args .t)))) at (c .before .loop .inv .3)
+
+pub placed-at-spec : {M : Type 1} → statement M
+placed-at-spec =
+    tie.close
+    (tie.spec
+    Inv-loop
+    μ-loop
+    loop-holds
+    shared-slice-read-wide
+    wide-requires
+    add-if1
+    add-n
+    add-p
+    loop-less
+    loop-again
+    returns)

@@ -1,0 +1,48 @@
+-- The places that a step gives its number to, by the types given on the way down and the positions left (document 01, "One
+-- institute chooses": "Then fill the remaining positions by merit with those left, marked or not.").
+use Prim.Native.Nat.{ℕ, suc, _-_}
+use mathlib.Core.Bool.{Bool, cond, not, _&&_, _||_}
+use mathlib.Core.List.{List}
+use lib.Dec.{ltb}
+use lib.ListN.{length, getD, replicate}
+use Rattle.round.specs.Lists.{tabulate, count}
+use Rattle.round.specs.Questions.{positionsIn, reservedIn}
+use Rattle.choice.specs.Step.{taken}
+use Rattle.choice.specs.Offers.{considersBy}
+
+-- considered, and given no type
+abbrev pub restAt : List ℕ → (ℕ → Bool) → ℕ → Bool
+restAt placed considered p = considered p && not (ltb 0 (getD placed p 0))
+
+-- the better ones of the rest leave a position
+abbrev pub fillsAt : List ℕ → (ℕ → Bool) → ℕ → ℕ → Bool
+fillsAt placed considered free p = restAt placed considered p && ltb (count p (restAt placed considered)) free
+
+abbrev pub seatsAt : List ℕ → (ℕ → Bool) → ℕ → ℕ → Bool
+seatsAt placed considered free p = ltb 0 (getD placed p 0) || fillsAt placed considered free p
+
+-- the steps with this number at the places of the set
+abbrev pub numbered : ℕ → ℕ → (ℕ → Bool) → List ℕ → List ℕ
+numbered n number X given = tabulate n (λ p. cond (X p) number (getD given p 0))
+
+-- the steps after one step, and the positions that it leaves vacant
+abbrev pub stepGiven : ℕ → List ℕ → List ℕ → (ℕ → Bool) → ℕ → List ℕ → List ℕ
+stepGiven number reserved marks considered positions given =
+    numbered (length marks) number (taken reserved marks considered positions) given
+
+abbrev pub stepVacant : List ℕ → List ℕ → (ℕ → Bool) → ℕ → ℕ
+stepVacant reserved marks considered positions = positions - count (length marks) (taken reserved marks considered positions)
+
+-- .. at the step of a code, by an institute's body
+abbrev pub ownGiven : ℕ → List ℕ → ℕ → List ℕ → List ℕ → List ℕ → List ℕ
+ownGiven types body code marks offers given =
+    stepGiven (suc code) (tabulate types (reservedIn types body code)) marks (considersBy offers given (suc code)) (positionsIn types body code)
+    given
+
+abbrev pub ownVacant : ℕ → List ℕ → ℕ → List ℕ → List ℕ → List ℕ → ℕ
+ownVacant types body code marks offers given =
+    stepVacant (tabulate types (reservedIn types body code)) marks (considersBy offers given (suc code)) (positionsIn types body code)
+
+-- .. at step 6, with the positions that it is handed
+abbrev pub dereservedGiven : ℕ → ℕ → List ℕ → List ℕ → List ℕ → List ℕ
+dereservedGiven types handed marks offers given = stepGiven 6 (replicate types 0) marks (considersBy offers given 1) handed given

@@ -1,0 +1,47 @@
+-- The search for a place (document 01, "One institute chooses": "seated candidates may be moved between types").
+-- placed has at each place a type, from 1, or 0; visited has at each type, from 0, whether the search has been there, 0 for no.
+use Prim.Native.Nat.{ℕ, suc, _≤_, _<_}
+use mathlib.Core.Path.{_≡_}
+use mathlib.Core.Bool.{Bool, true, false}
+use mathlib.Core.List.{List}
+use lib.Dec.{eqb}
+use lib.ListN.{length, getD}
+use Rattle.round.specs.Lists.{count}
+use Rattle.choice.specs.Use.{holds, Placing}
+
+-- how many are placed at type t, from 0
+abbrev pub atType : List ℕ → ℕ → ℕ
+atType placed t = count (length placed) (λ p. eqb (getD placed p 0) (suc t))
+
+-- how many types are not visited
+abbrev pub unvisited : List ℕ → ℕ
+unvisited visited = count (length visited) (λ t. eqb (getD visited t 0) 0)
+
+-- what a search for the one at place c starts from
+pub record Searching (reserved marks placed visited : List ℕ) (c : ℕ) : Type 0 where
+  pub few : length reserved ≤ 8
+  pub types : length visited ≡ 8
+  pub within : c < length marks
+  pub placing : Placing reserved marks placed
+
+-- it ends with a placing of the same and c; who had no type, or a visited one, is not moved, and nobody comes to a visited type
+pub record Moved (reserved marks visited before after : List ℕ) (c : ℕ) : Type 0 where
+  pub placing : Placing reserved marks after
+  pub reached : 0 < getD after c 0
+  pub kept : (p : ℕ) → 0 < getD before p 0 → 0 < getD after p 0
+  pub apart : (p : ℕ) → (p ≡ c → ⊥) → getD before p 0 ≡ 0 → getD after p 0 ≡ 0
+  pub stays : (p t : ℕ) → (p ≡ c → ⊥) → 0 < getD visited t 0 → getD before p 0 ≡ suc t → getD after p 0 ≡ suc t
+  pub comes : (p t : ℕ) → 0 < getD visited t 0 → getD after p 0 ≡ suc t → (getD before p 0 ≡ suc t) × (p ≡ c → ⊥)
+
+-- the types that this search visits: each is full, and who is placed at one, as c, holds visited types only
+pub record Stuck (reserved marks visited visited′ before after : List ℕ) (c : ℕ) : Type 0 where
+  pub same : after ≡ before
+  pub more : (t : ℕ) → 0 < getD visited t 0 → 0 < getD visited′ t 0
+  pub full : (t : ℕ) → 0 < getD visited′ t 0 → getD visited t 0 ≡ 0 → getD reserved t 0 ≤ atType before t
+  pub closed : (p t u : ℕ) → 0 < getD visited′ t 0 → getD visited t 0 ≡ 0 → getD before p 0 ≡ suc t → u < length reserved
+      → holds (getD marks p 0) u ≡ true → 0 < getD visited′ u 0
+  pub own : (u : ℕ) → u < length reserved → holds (getD marks c 0) u ≡ true → 0 < getD visited′ u 0
+
+pub record Searched (reserved marks visited visited′ before after : List ℕ) (c : ℕ) (r : Bool) : Type 0 where
+  pub found : r ≡ true → Moved reserved marks visited before after c
+  pub stuck : r ≡ false → Stuck reserved marks visited visited′ before after c

@@ -1,0 +1,21 @@
+-- What the way down the merit list leaves: types for those taken for use.
+use Prim.Native.Nat.{ℕ, _<_}
+use mathlib.Core.Path.{_≡_}
+use mathlib.Core.Bool.{Bool, true, false}
+use mathlib.Core.List.{List}
+use lib.Dec.{ltb}
+use lib.ListN.{length, getD}
+use Rattle.round.specs.Lists.{count}
+use Rattle.choice.specs.Step.{takenForUse}
+use Rattle.choice.specs.Search.{Moved, Stuck}
+
+-- one more is placed and nothing more is exhausted, or it is not, and what the search visited is exhausted
+pub record Attempted (reserved marks exhausted exhausted′ before after : List ℕ) (c : ℕ) (r : Bool) : Type 0 where
+  pub found : r ≡ true → Moved reserved marks exhausted before after c
+  pub spared : r ≡ true → exhausted′ ≡ exhausted
+  pub stuck : r ≡ false → Stuck reserved marks exhausted exhausted′ before after c
+
+-- just those taken for use are given a type, and r is their number
+pub record Took (reserved marks placed : List ℕ) (considered : ℕ → Bool) (r : ℕ) : Type 0 where
+  pub each : (p : ℕ) → p < length marks → takenForUse reserved marks considered p ≡ ltb 0 (getD placed p 0)
+  pub number : r ≡ count (length marks) (takenForUse reserved marks considered)

@@ -1,0 +1,47 @@
+// One step: taking for use, then filling by merit.
+use crate::fill::fill;
+use crate::take::take_for_use;
+ghost use mathlib.Core.Path.{_≡_};
+ghost use Prim.Native.Nat.{_-_, _≤_};
+ghost use lib.ListN.{length, replicate};
+ghost use Rattle.choice.specs.Offers.{considersBy};
+ghost use Rattle.choice.specs.Fill.{stepGiven, stepVacant};
+
+// No type for any place.
+fn no_types() -> [u8; 512]
+    ensures { λ r. ⌜ r ≡ replicate 512 0 ⌝ }
+{
+    [0u8; 512]
+}
+
+// The positions that those taken for use leave.
+fn left_of(positions: usize, used: usize) -> usize
+    ensures { λ r. ⌜ r ≡ positions - used ⌝ }
+{
+    if used < positions {
+        positions - used
+    } else {
+        0
+    }
+}
+
+// Does one step, and returns the positions that it leaves vacant.
+pub fn step(
+    reserved: &[usize],
+    positions: usize,
+    wanted: u8,
+    number: u8,
+    marks: &[u8],
+    offers: &[u8],
+    steps: &mut [u8],
+) -> usize
+    requires { ⌜ (length (now reserved) ≤ 8) × (length (now marks) ≤ 512) × (length (now offers) ≡ length (now marks)) × (length (now steps) ≡ length (now marks)) ⌝ }
+    ensures { λ r. ⌜ (now (steps .exit) ≡ stepGiven number (now (reserved .entry)) (now (marks .entry)) (considersBy (now (offers .entry)) (now (steps .entry)) wanted) positions (now (steps .entry)))
+        × (r ≡ stepVacant (now (reserved .entry)) (now (marks .entry)) (considersBy (now (offers .entry)) (now (steps .entry)) wanted) positions) ⌝ }
+{
+    let n = marks.len();
+    let mut types = no_types();
+    let used = take_for_use(reserved, marks, offers, steps, wanted, &mut types[..n]);
+    let free = left_of(positions, used);
+    fill(free, number, offers, wanted, &types[..n], steps)
+}

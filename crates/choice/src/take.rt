@@ -1,0 +1,71 @@
+// Down the places: who raises the use of those taken is taken.
+use crate::placing::place;
+ghost use mathlib.Core.Path.{_≡_};
+ghost use Prim.Native.Nat.{_≤_, _<_};
+ghost use lib.ListN.{length, replicate};
+ghost use Rattle.choice.specs.Offers.{considersBy};
+ghost use Rattle.choice.specs.Search.{Searching};
+ghost use Rattle.choice.specs.Taken.{Attempted, Took};
+
+// Whether place p offers by this byte and has no step yet.
+pub fn considers(offers: &[u8], steps: &[u8], wanted: u8, p: usize) -> bool
+    requires { ⌜ (p < length (now offers)) × (p < length (now steps)) ⌝ }
+    ensures { λ r. ⌜ r ≡ considersBy (now (offers .entry)) (now (steps .entry)) wanted p ⌝ }
+{
+    offers[p] == wanted && steps[p] == 0
+}
+
+// Copies the bytes of one list into another.
+fn copy(from: &[u8], to: &mut [u8])
+    requires { ⌜ length (now to) ≡ length (now from) ⌝ }
+    ensures { λ _. ⌜ now (to .exit) ≡ now (from .entry) ⌝ }
+{
+    for i in 0..from.len() {
+        to[i] = from[i];
+    }
+}
+
+// Places p with those taken before, if that can be; what a search in vain visited is exhausted.
+fn take_one(
+    reserved: &[usize],
+    marks: &[u8],
+    placed: &mut [u8],
+    exhausted: &mut [u8],
+    p: usize,
+) -> bool
+    requires { ⌜ Searching (now reserved) (now marks) (now placed) (now exhausted) p ⌝ }
+    ensures { λ r. ⌜ Attempted (now (reserved .entry)) (now (marks .entry)) (now (exhausted .entry)) (now (exhausted .exit)) (now (placed .entry)) (now (placed .exit)) p r ⌝ }
+{
+    let mut visited = [0u8; 8];
+    copy(exhausted, &mut visited);
+    if place(reserved, marks, placed, &mut visited, p) {
+        true
+    } else {
+        copy(&visited, exhausted);
+        false
+    }
+}
+
+// Gives a type to each place that is taken for use, and returns their number.
+pub fn take_for_use(
+    reserved: &[usize],
+    marks: &[u8],
+    offers: &[u8],
+    steps: &[u8],
+    wanted: u8,
+    placed: &mut [u8],
+) -> usize
+    requires { ⌜ (length (now reserved) ≤ 8) × (length (now offers) ≡ length (now marks)) × (length (now steps) ≡ length (now marks)) × (now placed ≡ replicate (length (now marks)) 0) ⌝ }
+    ensures { λ r. ⌜ Took (now (reserved .entry)) (now (marks .entry)) (now (placed .exit)) (considersBy (now (offers .entry)) (now (steps .entry)) wanted) r ⌝ }
+{
+    let mut exhausted = [0u8; 8];
+    let mut n = 0;
+    for p in 0..marks.len() {
+        if considers(offers, steps, wanted, p) {
+            if take_one(reserved, marks, placed, &mut exhausted, p) {
+                n += 1;
+            }
+        }
+    }
+    n
+}
