@@ -9,4 +9,5 @@ pub mod Promise
 pub mod Held
 pub mod Writing
 pub mod Handing
+pub mod Export
 pub mod Turns

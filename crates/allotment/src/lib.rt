@@ -1,7 +1,9 @@
 // The allotment of a round.
 pub mod areas;
+pub mod call;
 pub mod clearing;
 pub mod closing;
+pub mod export;
 pub mod gather;
 pub mod process;
 pub mod scatter;

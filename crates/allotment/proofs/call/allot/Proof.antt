@@ -1,0 +1,76 @@
+-- A file is read; it is refused, or its round is allotted.
+-- Assumes nothing.
+use borrow.Author.Needs.{needs}
+use denote.Ref.{now}
+use Rattle.allotment.proofs.Calling.{handed-refused, at-hand}
+use Rattle.allotment.proofs.call.allot.Statement.{statement}
+use Rattle.allotment.proofs.call.allot.Tie as tie
+
+no-rows-requires : tie.Need-no-rows-requires
+no-rows-requires c κs = search needs
+
+no-lists-requires : tie.Need-no-lists-requires
+no-lists-requires c κs = search needs
+
+slice-aggregate-read-round : tie.Need-slice-aggregate-read-round
+slice-aggregate-read-round c = search needs
+
+slice-aggregate-read-round-2 : tie.Need-slice-aggregate-read-round-2
+slice-aggregate-read-round-2 c = search needs
+
+read-round-requires : tie.Need-read-round-requires
+read-round-requires c κs = search needs
+
+enum-known-got : tie.Need-enum-known-got
+enum-known-got c = search needs
+
+enum-told : tie.Need-enum-told
+enum-told c = search needs
+
+handed-requires : tie.Need-handed-requires
+handed-requires c κs = search needs
+
+returns : tie.Need-returns
+returns c =
+    let a = c .before .before .before .before .before .before .before .before .before .before .before .before .before .args in
+    handed-refused (now (a .file)) (c .before .before .before .before .before .read-round .ensures) (now (a .answer)) (now (a .work)) (c .handed .ensures) (c .before .enum-told .given .1)
+
+slice-aggregate-allot-round : tie.Need-slice-aggregate-allot-round
+slice-aggregate-allot-round c = search needs
+
+slice-aggregate-allot-round-2 : tie.Need-slice-aggregate-allot-round-2
+slice-aggregate-allot-round-2 c = search needs
+
+allot-round-requires : tie.Need-allot-round-requires
+allot-round-requires c κs =
+    let a = c .before .before .before .before .before .before .before .before .before .before .before .before .before .before .before .before .before .args in
+    at-hand (now (a .file)) (c .before .before .before .before .before .before .before .before .before .read-round .ensures) (c .before .before .before .before .before .got .given .1)
+
+same-length : tie.Need-same-length
+same-length c = search needs
+
+same-length-2 : tie.Need-same-length-2
+same-length-2 c = search needs
+
+returns-2 : tie.Need-returns-2
+returns-2 c = search needs
+
+pub allot-spec : {M : Type 1} → statement M
+allot-spec =
+    tie.close
+    (tie.spec
+    no-rows-requires
+    no-lists-requires
+    slice-aggregate-read-round
+    slice-aggregate-read-round-2
+    read-round-requires
+    enum-known-got
+    enum-told
+    handed-requires
+    returns
+    slice-aggregate-allot-round
+    slice-aggregate-allot-round-2
+    allot-round-requires
+    same-length
+    same-length-2
+    returns-2)

@@ -1,0 +1,128 @@
+// The public call: a round file in, the answer out, both lent areas written.
+use crate::Answer;
+use crate::areas::write_answer;
+use crate::clearing::clear;
+use crate::process::run_offers;
+use round::head::Head;
+use round::reader::Reading;
+use round::reader::read_round;
+ghost use mathlib.Core.Path.{_≡_};
+ghost use mathlib.Core.List.{_++_};
+ghost use Prim.Native.Nat.{_≤_};
+ghost use lib.ListN.{length, drop};
+ghost use Rattle.round.specs.Reading.{roundOf};
+ghost use Rattle.allotment.specs.Process.{offersMade};
+ghost use Rattle.allotment.specs.Areas.{answerBytes, answerSize};
+ghost use Rattle.allotment.specs.Promise.{Promise};
+ghost use Rattle.allotment.specs.Held.{AtHand};
+ghost use Rattle.allotment.specs.Handing.{handedUp};
+
+// A table for where the candidates' records start.
+fn no_rows() -> [usize; 512]
+    ensures { λ r. ⌜ length r ≡ 512 ⌝ }
+{
+    [0; 512]
+}
+
+// A table for where the merit lists start.
+fn no_lists() -> [usize; 32]
+    ensures { λ r. ⌜ length r ≡ 32 ⌝ }
+{
+    [0; 32]
+}
+
+// An array with a byte for each candidate.
+fn no_seats() -> [u8; 512]
+    ensures { λ r. ⌜ length r ≡ 512 ⌝ }
+{
+    [0; 512]
+}
+
+// The refusal that the reader hands up.
+fn handed(got: Reading) -> Answer
+    ensures { λ r. ⌜ r ≡ handedUp got ⌝ }
+{
+    match got {
+        Reading::Read(_) => Answer::Refused {
+            number: 14,
+            offset: 0,
+        },
+        Reading::Refused { number, offset } => Answer::Refused { number, offset },
+    }
+}
+
+// The offers of a round and its answer area; both arrays are for the seats.
+fn seat_all(
+    file: &[u8],
+    h: Head,
+    candidates: &[usize],
+    merits: &[usize],
+    holders: &mut [u8],
+    steps: &mut [u8],
+    answer: &mut [u8],
+) -> usize
+    requires { ⌜ AtHand (now file) h (now candidates) (now merits) ⌝ }
+    requires { ⌜ (length (now holders) ≡ h .candidates) × (length (now steps) ≡ h .candidates) ⌝ }
+    requires { ⌜ answerSize (roundOf (now file)) ≤ length (now answer) ⌝ }
+    ensures { λ r. ⌜ (r ≡ offersMade (roundOf (now (file .entry))))
+        × (now (answer .exit)
+        ≡ answerBytes (roundOf (now (file .entry))) ++ drop (answerSize (roundOf (now (file .entry)))) (now (answer .entry))) ⌝ }
+{
+    let offers = run_offers(file, h, candidates, merits, holders, steps);
+    write_answer(file, h, candidates, merits, holders, steps, answer);
+    offers
+}
+
+// Question 14, and the allotment of a round that was read.
+fn allot_round(
+    file: &[u8],
+    h: Head,
+    candidates: &[usize],
+    merits: &[usize],
+    answer: &mut [u8],
+    work: &mut [u8],
+) -> Answer
+    requires { ⌜ AtHand (now file) h (now candidates) (now merits) ⌝ }
+    ensures { λ r. ⌜ Promise (now (file .entry)) (now (answer .entry)) (now (work .entry)) r (now (answer .exit)) (now (work .exit)) ⌝ }
+{
+    let n = h.candidates;
+    let m = h.institutes;
+    if answer.len() < 2 * n + 12 * m {
+        return Answer::Refused {
+            number: 14,
+            offset: 0,
+        };
+    }
+    if work.len() < 8 * n {
+        return Answer::Refused {
+            number: 14,
+            offset: 0,
+        };
+    }
+    let mut holders = no_seats();
+    let mut steps = no_seats();
+    let offers = seat_all(
+        file,
+        h,
+        candidates,
+        merits,
+        &mut holders[..n],
+        &mut steps[..n],
+        answer,
+    );
+    clear(work, 8 * n);
+    Answer::Allotted(offers)
+}
+
+// The allotment of a round file: the seats and closing places in the answer area, the first bytes of the work area cleared.
+pub fn allot(file: &[u8], answer: &mut [u8], work: &mut [u8]) -> Answer
+    ensures { λ r. ⌜ Promise (now (file .entry)) (now (answer .entry)) (now (work .entry)) r (now (answer .exit)) (now (work .exit)) ⌝ }
+{
+    let mut candidates = no_rows();
+    let mut merits = no_lists();
+    let got = read_round(file, &mut candidates, &mut merits);
+    let Reading::Read(h) = got else {
+        return handed(got);
+    };
+    allot_round(file, h, &candidates, &merits, answer, work)
+}
