@@ -3,7 +3,8 @@ use Prim.Native.Nat.{ℕ, _+_, _*_, _<_, _≤_}
 use mathlib.Core.Path.{_≡_, sym, ap, _∙_}
 use mathlib.Core.List.{List, _++_}
 use native.Mathlib.Omega.{arith}
-use lib.ListN.{length, drop, replicate}
+use lib.ListN.{length, take, drop, replicate, length-replicate}
+use lib.Seq.{length-take-le}
 use Rattle.round.specs.declared.head.Head.{Head as CodeHead}
 use Rattle.round.specs.declared.reader.Reading.{Reading}
 use Rattle.round.specs.declared.reader.Reading.the-variants.{Read}
@@ -33,6 +34,13 @@ module _ (file : List ℕ) (h : CodeHead) (candidates merits : List ℕ) (hand :
   few =
       let s = sound file (hand .passing) in
       omega (arith, candidates-many, institutes-many, s .candidates-most, s .institutes-most)
+
+  -- a table of zeros has a place for each candidate
+  pub places : (table : List ℕ) → table ≡ replicate 512 0 → h .candidates ≤ length table
+  places table e = omega (arith, few, ap length e, length-replicate {A = ℕ} 512 0)
+
+  pub places-many : (table : List ℕ) → table ≡ replicate 512 0 → length (take (h .candidates) table) ≡ h .candidates
+  places-many table e = length-take-le (h .candidates) table (places table e)
 
   -- the sizes that question 14 asks for
   pub answer-size : answerSize (roundOf file) ≡ 2 * h .candidates + 12 * h .institutes

@@ -3,6 +3,7 @@ use crate::Answer;
 use crate::areas::write_answer;
 use crate::clearing::clear;
 use crate::process::run_offers;
+use crate::table::zeros;
 use round::head::Head;
 use round::reader::Reading;
 use round::reader::read_round;
@@ -29,13 +30,6 @@ fn no_lists() -> [usize; 32]
     ensures { λ r. ⌜ length r ≡ 32 ⌝ }
 {
     [0; 32]
-}
-
-// An array with a byte for each candidate.
-fn no_seats() -> [u8; 512]
-    ensures { λ r. ⌜ length r ≡ 512 ⌝ }
-{
-    [0; 512]
 }
 
 // The refusal that the reader hands up.
@@ -99,8 +93,8 @@ fn allot_round(
             offset: 0,
         };
     }
-    let mut holders = no_seats();
-    let mut steps = no_seats();
+    let mut holders = zeros();
+    let mut steps = zeros();
     let offers = seat_all(
         file,
         h,

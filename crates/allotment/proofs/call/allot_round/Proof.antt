@@ -4,8 +4,7 @@ use borrow.Author.Needs.{needs}
 use mathlib.Core.Path.{sym}
 use native.Mathlib.Omega.{arith}
 use denote.Ref.{now}
-use lib.Seq.{length-take-le}
-use Rattle.allotment.proofs.Calling.{few, answer-size, answer-small, work-small, all-well}
+use Rattle.allotment.proofs.Calling.{few, places, places-many, answer-size, answer-small, work-small, all-well}
 use Rattle.allotment.proofs.call.allot_round.Statement.{statement}
 use Rattle.allotment.proofs.call.allot_round.Tie as tie
 
@@ -45,43 +44,42 @@ returns-2 c =
     let a = s .args in
     work-small (now (a .file)) (a .h) (now (a .candidates)) (now (a .merits)) (s .pre) (now (a .answer)) (now (a .work)) (c .if2 .taken)
 
-no-seats-requires : tie.Need-no-seats-requires
-no-seats-requires c κs = search needs
+zeros-requires : tie.Need-zeros-requires
+zeros-requires c κs = search needs
 
-no-seats-requires-2 : tie.Need-no-seats-requires-2
-no-seats-requires-2 c κs = search needs
+zeros-requires-2 : tie.Need-zeros-requires-2
+zeros-requires-2 c κs = search needs
 
 array-borrow-prefix-holders : tie.Need-array-borrow-prefix-holders
 array-borrow-prefix-holders c =
     let s = c .before .before .before .before .before .before .before .before .before in
     let a = s .args in
-    omega (arith, few (now (a .file)) (a .h) (now (a .candidates)) (now (a .merits)) (s .pre), c .before .no-seats .ensures)
+    places (now (a .file)) (a .h) (now (a .candidates)) (now (a .merits)) (s .pre) _ (c .before .zeros .ensures)
 
 slice-aggregate-seat-all : tie.Need-slice-aggregate-seat-all
 slice-aggregate-seat-all c =
     let s = c .before .before .before .before .before .before .before .before .before .before in
     let a = s .args in
-    sym (length-take-le (a .h .candidates) (c .before .before .no-seats .result) (omega (arith, few (now (a .file)) (a .h) (now (a .candidates)) (now (a .merits)) (s .pre), c .before .before .no-seats .ensures)))
+    sym (places-many (now (a .file)) (a .h) (now (a .candidates)) (now (a .merits)) (s .pre) _ (c .before .before .zeros .ensures))
 
 array-borrow-prefix-steps : tie.Need-array-borrow-prefix-steps
 array-borrow-prefix-steps c =
     let s = c .before .before .before .before .before .before .before .before .before .before in
     let a = s .args in
-    omega (arith, few (now (a .file)) (a .h) (now (a .candidates)) (now (a .merits)) (s .pre), c .before .no-seats2 .ensures)
+    places (now (a .file)) (a .h) (now (a .candidates)) (now (a .merits)) (s .pre) _ (c .before .zeros2 .ensures)
 
 slice-aggregate-seat-all-2 : tie.Need-slice-aggregate-seat-all-2
 slice-aggregate-seat-all-2 c =
     let s = c .before .before .before .before .before .before .before .before .before .before .before in
     let a = s .args in
-    sym (length-take-le (a .h .candidates) (c .before .before .no-seats2 .result) (omega (arith, few (now (a .file)) (a .h) (now (a .candidates)) (now (a .merits)) (s .pre), c .before .before .no-seats2 .ensures)))
+    sym (places-many (now (a .file)) (a .h) (now (a .candidates)) (now (a .merits)) (s .pre) _ (c .before .before .zeros2 .ensures))
 
 seat-all-requires : tie.Need-seat-all-requires
 seat-all-requires c κs =
     let s = c .before .before .before .before .before .before .before .before .before .before .before .before in
     let a = s .args in
-    let n = a .h .candidates in
-    let holders = length-take-le n (c .before .before .before .before .no-seats .result) (omega (arith, few (now (a .file)) (a .h) (now (a .candidates)) (now (a .merits)) (s .pre), c .before .before .before .before .no-seats .ensures)) in
-    let steps = length-take-le n (c .before .before .before .no-seats2 .result) (omega (arith, few (now (a .file)) (a .h) (now (a .candidates)) (now (a .merits)) (s .pre), c .before .before .before .no-seats2 .ensures)) in
+    let holders = places-many (now (a .file)) (a .h) (now (a .candidates)) (now (a .merits)) (s .pre) _ (c .before .before .before .before .zeros .ensures) in
+    let steps = places-many (now (a .file)) (a .h) (now (a .candidates)) (now (a .merits)) (s .pre) _ (c .before .before .before .zeros2 .ensures) in
     (s .pre, ((holders, steps), omega (arith, answer-size (now (a .file)) (a .h) (now (a .candidates)) (now (a .merits)) (s .pre), c .before .before .before .before .before .before .if1 .left)))
 
 mul-clear : tie.Need-mul-clear
@@ -114,8 +112,8 @@ allot-round-spec =
     returns
     mul-if2
     returns-2
-    no-seats-requires
-    no-seats-requires-2
+    zeros-requires
+    zeros-requires-2
     array-borrow-prefix-holders
     slice-aggregate-seat-all
     array-borrow-prefix-steps
