@@ -6,8 +6,6 @@ pub mod Bodies
 pub mod AlikeRounds
 pub mod Promised
 pub mod Returns
-pub mod Written
-pub mod Kept
 pub mod Closing
 pub mod Putting
 pub mod Answering

@@ -1,7 +1,7 @@
 -- A closing place as it is found by going down the merit list: the largest so far of the places that are seated at the step.
 use Prim.Native.Nat.{ℕ, suc, _+_, _-_, _<_, _≤_, max}
 use mathlib.Core.Path.{_≡_, refl, sym, ap, _∙_}
-use mathlib.Core.Bool.{Bool, true, false, cond}
+use mathlib.Core.Bool.{Bool, true, false}
 use mathlib.Core.List.{List}
 use native.Mathlib.Omega.{arith}
 use native.Mathlib.Numerals.{add-one}
@@ -11,7 +11,7 @@ use Rattle.round.specs.Records.{headOf}
 use Rattle.round.specs.Reading.{roundOf}
 use Rattle.round.specs.Round.{Round}
 use Rattle.round.specs.Places.{instituteAt, meritAt}
-use Rattle.round.specs.Sound.{SoundInstitute, Sound}
+use Rattle.round.specs.Sound.{SoundInstitute}
 use Rattle.round.proofs.Sound.{sound, length-candidates, length-institutes}
 use Rattle.round.proofs.Words.{tabulate-at, cond-yes, cond-no}
 use Rattle.allotment.specs.Offers.{candidateOn}
