@@ -21,7 +21,7 @@ use Rattle.choice.proofs.placing.place.Kinds as place-kinds
 use Rattle.choice.proofs.placing.+place.Lts-place as place-lts
 use Rattle.choice.proofs.placing.placed_at.Reads as placed-at-reads
 use Rattle.choice.proofs.placing.to_try.Reads as to-try-reads
-use Rattle.choice.proofs.placing.wide.Reads as wide-reads
+use Rattle.round.proofs.word.wide.Reads as wide-reads
 use Rattle.choice.proofs.placing.+place.{statement}
 use Rattle.choice.proofs.placing.+place.Tie.{close}
 
