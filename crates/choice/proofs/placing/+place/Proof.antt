@@ -9,11 +9,10 @@ use native.Mathlib.Numerals.{add-one}
 use lib.ListN.{length, getD, set, length-set}
 use borrow.Author.Needs.{needs}
 use native.Mathlib.Omega.{arith}
-use Rattle.choice.specs.Search.{unvisited}
 use Rattle.choice.specs.Use.{holds, Placing}
 use Rattle.choice.specs.declared.placing.Found.{Found}
 use Rattle.choice.specs.declared.placing.Found.the-variants.{At, Nothing}
-use Rattle.choice.proofs.Visits.{Tried, Asked, Ended, ended-by, Cleared, tried-test, skip, done, ask, pass, fail, clear, fewer, cleared, finish, settle}
+use Rattle.choice.proofs.Visits.{unvisited, Tried, Asked, Ended, ended-by, Cleared, tried-test, skip, done, ask, pass, fail, clear, fewer, cleared, finish, settle}
 use borrow.Fn.Kinds.{In}
 use borrow.Fn.PlainCycle.{Measures, is, falls, and}
 use Rattle.choice.proofs.placing.place.Reads as place
@@ -94,8 +93,8 @@ ended t c =
     let at : getD (w .9 .placed) (w .9 .h) 0 ≡ suc (k .loop .t) = omega (arith, w .12 .ensures, w .13 .taken) in
     ended-by reserved marks (start .args .c) entry refl places (w .22) (w .24)
     (cleared reserved marks (k .loop .placed) (k .before .search .visited) (k .loop .visited) (start .args .c) (k .loop .t) (k .loop .inv .4)
-    (omega (arith, sized t k, start .pre .1 .few, w .0 .taken)) (w .0 .taken) (test .0) (test .1) (w .9 .visited) (w .9 .placed) (w .16 .last .1 .1 .0) (w .9 .h)
-    (w .9 .inv .3) (w .10 .taken) (placing t k) (w .9 .inv .5) at (w .16 .ensures .found (w .21 .taken))))
+    (omega (arith, sized t k, start .pre .1 .few, w .0 .taken)) (w .0 .taken) (test .0) (test .1) (w .9 .visited) (w .9 .h) (w .9 .inv .5)
+    (w .9 .placed) (w .16 .last .1 .1 .0) (w .9 .inv .3) (w .10 .taken) (placing t k) at (w .16 .ensures .found (w .21 .taken))))
     (λ w.
     ended-by reserved marks (start .args .c) entry (w .2) places (w .1) (w .3)
     (done reserved marks (k .loop .placed) (k .before .search .visited) (k .loop .visited) (start .args .c) (k .loop .t) (w .0 .left) (k .loop .inv .4))))
@@ -180,7 +179,7 @@ place-place-requires t c κs =
     let len : length (i .loop2 .visited) ≡ length (k .loop .visited) = i .loop2 .inv .4 ∙ length-set (k .loop .visited) (k .loop .t) 1 in
     let less : unvisited (i .loop2 .visited) < unvisited (k .before .search .visited) =
     fewer (start .args .reserved .now) (start .args .marks .now) (k .loop .placed) (k .before .search .visited) (k .loop .visited) (start .args .c) (k .loop .t) (k .loop .inv .4)
-    (omega (arith, sized t k, start .pre .1 .few)) below (to-try t o .0) (to-try t o .1) (i .loop2 .visited) (i .loop2 .h) (sym (k .loop .inv .3)) len (i .loop2 .inv .5) in (
+    (omega (arith, sized t k, start .pre .1 .few)) below (to-try t o .0) (to-try t o .1) (i .loop2 .visited) (i .loop2 .h) (i .loop2 .inv .5) (sym (k .loop .inv .3)) len in (
       omega (arith, less, ap unvisited (k .before .search .inv .1), start .pre .0),
       record {
         few = start .pre .1 .few;
@@ -249,8 +248,8 @@ place-loop-again t c =
     let places : c .if1 .placed ≡ k .loop .placed = w .7 ∙ w .5 .inv .3 in
     let after : Next (k .loop .placed) (w .5 .visited) =
     finish reserved marks (k .loop .placed) visited₀ (k .loop .visited) (start .args .c) (k .loop .t) (k .loop .inv .4)
-    (omega (arith, sized t k, start .pre .1 .few)) next (test .0) (test .1) (w .5 .visited) (w .5 .h)
-    (omega (arith, w .2 .ensures, w .4 .left)) (w .6 .left) (w .5 .inv .5) in (
+    (omega (arith, sized t k, start .pre .1 .few)) next (test .0) (test .1) (w .5 .visited) (w .5 .h) (w .5 .inv .5)
+    (omega (arith, w .2 .ensures, w .4 .left)) (w .6 .left) in (
       omega arith,
       refl,
       places ∙ k .loop .inv .2,
