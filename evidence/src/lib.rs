@@ -1,0 +1,13 @@
+//! The unit and the second program on the same rounds: compared, and timed.
+
+pub mod area;
+pub mod call;
+pub mod choice;
+pub mod classes;
+pub mod difference;
+pub mod files;
+pub mod plan;
+pub mod program;
+pub mod shapes;
+pub mod tally;
+pub mod verdict;
