@@ -5,6 +5,8 @@ pub mod call;
 pub mod choice;
 pub mod classes;
 pub mod difference;
+pub mod fence;
+pub mod fenced;
 pub mod files;
 pub mod plan;
 pub mod program;

@@ -4,7 +4,7 @@ use crate::classes::{worked, Run};
 use crate::difference::Difference;
 use crate::files::{Made, A};
 use crate::tally::{Came, Tally};
-use second::generate::{boundary, Class};
+use second::generate::{boundary, Class as Size};
 use second::printing::print;
 use second::random::Random;
 use second::reading::{read, LONGEST};
@@ -25,7 +25,10 @@ enum Way {
     Dribbled,
 }
 
-/// The program and the place where input files are left for it.
+/// A class of runs of the program over the folder of worked rounds.
+pub type Class = fn(&Program, &Run, &Path) -> Tally;
+
+/// The program and the folder in which an input file is left for it.
 pub struct Program {
     pub path: PathBuf,
     pub scratch: PathBuf,
@@ -56,8 +59,10 @@ impl Program {
         let mut command = Command::new(&self.path);
         command.stdout(Stdio::piped());
         if way == Way::File {
-            std::fs::write(&self.scratch, file)?;
-            command.stdin(File::open(&self.scratch)?);
+            std::fs::create_dir_all(&self.scratch)?;
+            let path = self.scratch.join("input");
+            std::fs::write(&path, file)?;
+            command.stdin(File::open(&path)?);
         } else {
             command.stdin(Stdio::piped());
         }
@@ -117,29 +122,27 @@ impl Program {
         tally
     }
 
-    /// All classes of the program: the worked rounds against the lines expected, made files, short reads, none and too much.
-    pub fn classes(&self, run: &Run, folder: &Path) -> Vec<Tally> {
-        let times = if run.long { 10 } else { 1 };
-        let mut files = worked(folder);
-        files.extend(boundary().into_iter().map(|(_, file, _)| file));
-        let mut random = run.random("program");
-        for (made, count) in [
-            (Made::Lawful(Class::Tiny), 100),
-            (Made::Lawful(Class::Small), 100),
-            (Made::Lawful(Class::Mid), 10),
-            (Made::Lawful(Class::Maximal), 1),
-            (Made::TwoFaults, 40),
-            (Made::Torn, 60),
-        ] {
-            files.extend((0..count * times).map(|_| made.file(random.bits())));
-        }
-        vec![
-            self.expected(run, folder),
-            self.class(run, "program, file", &files, Way::File),
-            self.class(run, "program, pipe", &files, Way::Pipe),
-            self.class(run, "program, dribbled", &files, Way::Dribbled),
-            self.class(run, "program, over-long", &over_long(), Way::Pipe),
-            self.class(run, "program, over-long file", &over_long(), Way::File),
+    /// The classes of the program, by name: the lines expected, files, pipes, short reads, none and too much.
+    pub fn classes(&self) -> [(&'static str, Class); 6] {
+        [
+            ("program, expected", |program, run, folder| {
+                program.expected(run, folder)
+            }),
+            ("program, file", |program, run, folder| {
+                program.class(run, "program, file", &files(run, folder), Way::File)
+            }),
+            ("program, pipe", |program, run, folder| {
+                program.class(run, "program, pipe", &files(run, folder), Way::Pipe)
+            }),
+            ("program, dribbled", |program, run, folder| {
+                program.class(run, "program, dribbled", &files(run, folder), Way::Dribbled)
+            }),
+            ("program, over-long", |program, run, _| {
+                program.class(run, "program, over-long", &over_long(), Way::Pipe)
+            }),
+            ("program, over-long file", |program, run, _| {
+                program.class(run, "program, over-long file", &over_long(), Way::File)
+            }),
         ]
     }
 
@@ -176,9 +179,28 @@ impl Program {
     }
 }
 
+/// The files that the program is run on: worked rounds, boundary files and made ones.
+fn files(run: &Run, folder: &Path) -> Vec<Vec<u8>> {
+    let times = if run.long { 10 } else { 1 };
+    let mut files = worked(folder);
+    files.extend(boundary().into_iter().map(|(_, file, _)| file));
+    let mut random = run.random("program");
+    for (made, count) in [
+        (Made::Lawful(Size::Tiny), 100),
+        (Made::Lawful(Size::Small), 100),
+        (Made::Lawful(Size::Mid), 10),
+        (Made::Lawful(Size::Maximal), 1),
+        (Made::TwoFaults, 40),
+        (Made::Torn, 60),
+    ] {
+        files.extend((0..count * times).map(|_| made.file(random.bits())));
+    }
+    files
+}
+
 /// Nothing at all, and inputs longer than the longest lawful file, some of them by far.
 fn over_long() -> Vec<Vec<u8>> {
-    let longest = Made::Lawful(Class::Maximal).file(1);
+    let longest = Made::Lawful(Size::Maximal).file(1);
     let behind = |file: &[u8], more: usize| [file, &vec![0; more]].concat();
     vec![
         Vec::new(),

@@ -159,7 +159,7 @@ pub fn contested(n: usize, seed: u64) -> Round {
 
 /// The two neighbouring types, the last one's neighbour being the first.
 fn two_types(first: usize) -> u8 {
-    1 << first % 8 | 1 << (first + 1) % 8
+    1 << (first % 8) | 1 << ((first + 1) % 8)
 }
 
 /// A round hard on the placing search: 512 OBC candidates at one institute, whose open and OBC positions are 32 for each of 8 types; seed 0 gives the chain, 1 the full one, others mix both.

@@ -1,22 +1,26 @@
-//! Compares the unit with the second program: `compare [--long] [--seed S] [--rounds DIR] [--keep DIR] [--program PATH]`.
+//! Compares the unit with the second program, class by class.
 
 use evidence::classes::Run;
+use evidence::fenced;
 use evidence::plan;
 use evidence::program::Program;
 use evidence::tally::Tally;
 use std::path::PathBuf;
 use std::process::ExitCode;
 
-const USAGE: &str = "compare [--long] [--seed S] [--rounds DIR] [--keep DIR] [--program PATH]
---long runs 100,000 lawful rounds and 1,000,000 damaged files; --seed takes other made files; --rounds is the folder of worked rounds;
---keep is the folder that gets the first differing input of a class; --program is the unit's program, run on files and pipes.";
+const USAGE: &str = "compare [--long] [--seed S] [--only NAMES] [--rounds DIR] [--keep DIR] [--program PATH]
+--long runs 100,000 lawful rounds and 1,000,000 damaged files; --seed takes other made files; --only runs the classes whose names
+begin with one of these, parted by commas; --rounds is the folder of worked rounds; --keep is the folder that gets the first
+differing input of a class; --program is the unit's program, run on files and pipes.";
 
 /// The words of the command.
 struct Words {
     run: Run,
+    only: Vec<String>,
     rounds: PathBuf,
     keep: PathBuf,
     program: Option<PathBuf>,
+    fenced: bool,
 }
 
 /// Reads the words of the command.
@@ -26,26 +30,31 @@ fn words() -> Option<Words> {
             seed: 1,
             long: false,
         },
+        only: vec![String::new()],
         rounds: PathBuf::from("rounds"),
         keep: PathBuf::from("target/compare"),
         program: None,
+        fenced: false,
     };
     let mut given = std::env::args().skip(1);
     while let Some(word) = given.next() {
         match word.as_str() {
             "--long" => words.run.long = true,
             "--seed" => words.run.seed = given.next()?.parse().ok()?,
+            "--only" => words.only = given.next()?.split(',').map(str::to_string).collect(),
             "--rounds" => words.rounds = given.next()?.into(),
             "--keep" => words.keep = given.next()?.into(),
             "--program" => words.program = Some(given.next()?.into()),
+            "--fenced" => words.fenced = true,
             _ => return None,
         }
     }
     Some(words)
 }
 
-/// The tallies so far, each printed as it comes.
+/// The classes run so far.
 struct Book {
+    only: Vec<String>,
     keep: PathBuf,
     compared: usize,
     passed: usize,
@@ -53,8 +62,12 @@ struct Book {
 }
 
 impl Book {
-    /// Prints the line of a class and its first differing case, whose input is kept.
-    fn enter(&mut self, tally: Tally) {
+    /// Runs a class if it is asked for, and prints its line and its first differing case, whose input is kept.
+    fn class(&mut self, name: &str, run: impl FnOnce() -> Tally) {
+        if !self.only.iter().any(|wanted| name.starts_with(wanted)) {
+            return;
+        }
+        let tally = run();
         println!("{}", tally.line());
         self.compared += tally.compared;
         if tally.passed() {
@@ -67,8 +80,9 @@ impl Book {
             return;
         };
         print!("{}", difference.text());
-        let name: String = tally.name.replace(", ", "-").replace(' ', "-");
-        let path = self.keep.join(format!("{name}.round"));
+        let path = self
+            .keep
+            .join(name.replace(", ", "-").replace(' ', "-") + ".round");
         let kept = std::fs::create_dir_all(&self.keep)
             .and_then(|()| std::fs::write(&path, &difference.input));
         if kept.is_ok() {
@@ -78,18 +92,20 @@ impl Book {
 }
 
 fn main() -> ExitCode {
-    let Some(Words {
-        run,
-        rounds,
-        keep,
-        program,
-    }) = words()
-    else {
+    let Some(words) = words() else {
         eprintln!("{USAGE}");
         return ExitCode::from(2);
     };
+    let (run, rounds) = (words.run, words.rounds);
+    if words.fenced {
+        return match fenced::alone(&run, &rounds) {
+            Ok(()) => ExitCode::SUCCESS,
+            Err(_) => ExitCode::FAILURE,
+        };
+    }
     let mut book = Book {
-        keep: keep.clone(),
+        only: words.only,
+        keep: words.keep.clone(),
         compared: 0,
         passed: 0,
         failed: 0,
@@ -100,30 +116,31 @@ fn main() -> ExitCode {
         if run.long { "long" } else { "short" }
     );
     println!("{}", Tally::header());
-    book.enter(run.rounds(&rounds));
-    book.enter(run.boundary());
-    for (made, count) in plan::lawful(run.long) {
-        book.enter(run.class(made, count));
+    book.class("rounds", || run.rounds(&rounds));
+    book.class("boundary", || run.boundary());
+    let made = plan::lawful(run.long)
+        .into_iter()
+        .chain(plan::damaged(run.long));
+    for (made, count) in made {
+        book.class(&made.name(), || run.class(made, count));
     }
-    for (made, count) in plan::damaged(run.long) {
-        book.enter(run.class(made, count));
-    }
-    book.enter(run.changed());
-    book.enter(run.cut());
-    book.enter(run.lengths(&rounds));
-    book.enter(run.verdicts(&rounds));
+    book.class("a, one byte changed", || run.changed());
+    book.class("a, cut and extended", || run.cut());
+    book.class("area lengths", || run.lengths(&rounds));
+    book.class("verdict", || run.verdicts(&rounds));
     for (name, places, count) in plan::choices(run.long) {
-        book.enter(run.choices(name, places, count));
+        book.class(name, || run.choices(name, places, count));
     }
-    book.enter(run.stray(if run.long { 20_000 } else { 2_000 }));
-    if let Some(path) = program {
-        let scratch = keep.join("input");
-        if let Err(error) = std::fs::create_dir_all(&keep) {
-            println!("no folder for the program's inputs: {error}");
-            book.failed += 1;
-        }
-        for tally in (Program { path, scratch }).classes(&run, &rounds) {
-            book.enter(tally);
+    let stray = if run.long { 20_000 } else { 2_000 };
+    book.class("choose, stray marks", || run.stray(stray));
+    book.class(fenced::NAME, || fenced::class(&run, &rounds));
+    if let Some(path) = words.program {
+        let program = Program {
+            path,
+            scratch: words.keep,
+        };
+        for (name, class) in program.classes() {
+            book.class(name, || class(&program, &run, &rounds));
         }
     }
     println!(
@@ -131,7 +148,7 @@ fn main() -> ExitCode {
         book.compared
     );
     println!("{} passed, {} failed", book.passed, book.failed);
-    if book.failed == 0 {
+    if book.failed == 0 && book.passed > 0 {
         ExitCode::SUCCESS
     } else {
         ExitCode::FAILURE
