@@ -162,7 +162,7 @@ fn two_types(first: usize) -> u8 {
     1 << (first % 8) | 1 << ((first + 1) % 8)
 }
 
-/// A round hard on the placing search: 512 OBC candidates at one institute, whose open and OBC positions are 32 for each of 8 types; seed 0 gives the chain, 1 the full one, others mix both.
+/// A round hard on the placing search: 512 OBC candidates at one institute, whose open and OBC positions are 32 for each of 8 types, so that those who find no open one search again; seed 0 gives the chain, 1 the full one, others mix both.
 pub fn worst(seed: u64) -> Round {
     let mut random = Random::new(seed);
     let marks = |place: usize, random: &mut Random| match seed {
@@ -186,7 +186,7 @@ pub fn worst(seed: u64) -> Round {
         .collect();
     Round {
         types: 8,
-        policy: 1,
+        policy: 0,
         institutes: vec![institute],
         candidates,
         merit: vec![(0..512).rev().collect()],
