@@ -43,10 +43,10 @@ impl Run {
     fn made(&self, made: Made, count: usize) -> impl Iterator<Item = Vec<u8>> {
         let mut random = self.random(&made.name());
         // The worst rounds with the first seeds are fixed ones.
-        let fixed = made == Made::Worst;
+        let fixed = matches!(made, Made::Worst(_));
         (0..count as u64).map(move |number| {
             let seed = random.bits();
-            made.file(if fixed && number < 2 { number } else { seed })
+            made.file(if fixed && number < 3 { number } else { seed })
         })
     }
 

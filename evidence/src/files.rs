@@ -19,8 +19,8 @@ pub enum Made {
     Mixed,
     /// The contested round of so many candidates.
     Contested(usize),
-    /// Rounds hard on the placing search.
-    Worst,
+    /// A round of so many candidates that is hard on the placing search.
+    Worst(usize),
     /// Files made for one refusal.
     Refused(u8),
     /// Files with two faults.
@@ -36,7 +36,7 @@ impl Made {
             Made::Lawful(class) => class.name().to_string(),
             Made::Mixed => "mixed".to_string(),
             Made::Contested(n) => format!("contested-{n}"),
-            Made::Worst => "worst".to_string(),
+            Made::Worst(n) => format!("worst-{n}"),
             Made::Refused(number) => format!("refused-{number}"),
             Made::TwoFaults => "two-faults".to_string(),
             Made::Torn => "torn".to_string(),
@@ -49,7 +49,7 @@ impl Made {
             Made::Lawful(class) => lawful(class, seed),
             Made::Mixed => write(&shapes::mixed(seed)),
             Made::Contested(n) => write(&shapes::contested(n, seed)),
-            Made::Worst => write(&shapes::worst(seed)),
+            Made::Worst(n) => write(&shapes::worst(n, seed)),
             Made::Refused(number) => damaged(number, seed).file,
             Made::TwoFaults => two_faults(seed).file,
             Made::Torn => torn(seed),

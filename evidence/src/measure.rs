@@ -35,8 +35,9 @@ pub fn classes() -> Vec<(String, Made, Vec<u64>)> {
         named(Class::Maximal, (1..=4).collect()),
         named(Class::Contested, (1..=3).collect()),
         named(Class::Crowded, (1..=3).collect()),
-        ("worst, chain".to_string(), Made::Worst, vec![0]),
-        ("worst, full".to_string(), Made::Worst, vec![1]),
+        ("worst, steep".to_string(), Made::Worst(512), vec![0]),
+        ("worst, full".to_string(), Made::Worst(512), vec![1]),
+        ("worst, chain".to_string(), Made::Worst(512), vec![2]),
     ]
 }
 

@@ -17,7 +17,8 @@ pub fn lawful(long: bool) -> Vec<(Made, usize)> {
         (Made::Lawful(Class::Maximal), of(10, 400)),
         (Made::Lawful(Class::Contested), of(3, 100)),
         (Made::Lawful(Class::Crowded), of(6, 200)),
-        (Made::Worst, of(2, 12)),
+        (Made::Worst(128), of(20, 400)),
+        (Made::Worst(512), of(1, 12)),
     ]
 }
 

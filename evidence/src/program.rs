@@ -35,7 +35,7 @@ pub struct Program {
 }
 
 /// The parts into which at most a dribbled file falls, and the time between two.
-const PARTS: usize = 72;
+const PARTS: usize = 40;
 const BETWEEN: Duration = Duration::from_micros(300);
 
 /// Writes a file a few bytes at a time, each part after a pause in which the reader can take the one before.

@@ -162,25 +162,36 @@ fn two_types(first: usize) -> u8 {
     1 << (first % 8) | 1 << ((first + 1) % 8)
 }
 
-/// A round hard on the placing search: 512 OBC candidates at one institute, whose open and OBC positions are 32 for each of 8 types, so that those who find no open one search again; seed 0 gives the chain, 1 the full one, others mix both.
-pub fn worst(seed: u64) -> Round {
+/// A round hard on the placing search: n OBC candidates, a multiple of 16, at one institute whose open and OBC positions are n / 16 for each of 8 types, so that those who find no open one search again; seed 0 gives the steep one, where everybody holds every type and nearly all positions are of type 8, so that a search in the order of types visits all eight and moves a holder of each; 1 the full one, where everybody holds every type; 2 the chain; others mix these two.
+pub fn worst(n: usize, seed: u64) -> Round {
     let mut random = Random::new(seed);
+    let each = n / 16;
     let marks = |place: usize, random: &mut Random| match seed {
-        0 => chain_marks(place),
-        1 => 255,
+        0 | 1 => 255,
+        2 => chain_marks(place, each),
         _ => {
             let two = two_types(random.from_to(0, 7));
-            random.pick(&[chain_marks(place), two, 255])
+            random.pick(&[chain_marks(place, each), two, 255])
         }
     };
+    let mut reserved = vec![each; 8];
+    if seed == 0 {
+        reserved = vec![1; 8];
+        reserved[7] = 8 * each - 7;
+    }
     let mut institute = bare(8);
-    put(&mut institute, usize::from(OPEN), 256, vec![32; 8]);
-    put(&mut institute, usize::from(OBC), 256, vec![32; 8]);
+    put(
+        &mut institute,
+        usize::from(OPEN),
+        8 * each,
+        reserved.clone(),
+    );
+    put(&mut institute, usize::from(OBC), 8 * each, reserved);
     // Merit goes against the numbers, so that everybody is displaced by those who offer later.
-    let candidates = (0..512)
+    let candidates = (0..n)
         .map(|number| Candidate {
             code: OBC,
-            marks: marks(511 - number, &mut random),
+            marks: marks(n - 1 - number, &mut random),
             row: entries(1, OBC),
         })
         .collect();
@@ -189,16 +200,15 @@ pub fn worst(seed: u64) -> Round {
         policy: 0,
         institutes: vec![institute],
         candidates,
-        merit: vec![(0..512).rev().collect()],
+        merit: vec![(0..n).rev().collect()],
     }
 }
 
-/// The marks at a merit place of the chain: 32 of types 1 and 2, 32 of types 2 and 3 and so on to type 8 fill types 1 to 7, 16 of types 8 and 1 half of type 8; then 16 of type 1 alone each move one holder of every type, and everybody behind them searches all eight in vain.
-fn chain_marks(place: usize) -> u8 {
-    match place {
-        0..224 => two_types(place / 32),
-        224..240 => two_types(7),
-        240..256 => 1,
+/// The marks at a merit place of the chain: as many as a type has positions of types 1 and 2, as many of types 2 and 3 and so on to type 8 fill types 1 to 7, half as many of types 8 and 1 half of type 8; then the other half, of type 1 alone, each move one holder of every type, and everybody behind them searches all eight in vain.
+fn chain_marks(place: usize, each: usize) -> u8 {
+    match 2 * place / each {
+        half @ 0..=14 => two_types(half / 2),
+        15 => 1,
         _ => two_types(place),
     }
 }

@@ -56,8 +56,8 @@ pub fn page(classes: &[Measured], growth: &[Measured], stack: &str, plot: &str) 
         "# What a call costs\n\n\
          Written by `./bench`: one process, one core of {}, both built for release, the same files for the unit and the second\n\
          program. A class has 1 to 20 files; each time is the mean over them of the median, or the best, of many calls ({calls} calls\n\
-         of the unit in all). n is the largest number of candidates. In the chain and the full one, everybody's search goes through\n\
-         all eight types of one institute (`evidence/src/shapes.rs`).\n\n\
+         of the unit in all). n is the largest number of candidates. The worst ones are hard on the\n\
+         placing search: one institute, half of all candidates too many for its 8 types (`evidence/src/shapes.rs`).\n\n\
          {}\n## Cost over n\n\nThe contested shape, all but n and the positions equal.\n\n{}\n![cost over n]({plot})\n\n\
          ## Stack\n\n{stack}",
         processor(),
