@@ -17,6 +17,8 @@ pub enum Made {
     Lawful(Class),
     /// A lawful round of any size and shape.
     Mixed,
+    /// A lawful round of many candidates with short rows.
+    Wide,
     /// The contested round of so many candidates.
     Contested(usize),
     /// A round of so many candidates that is hard on the placing search.
@@ -35,6 +37,7 @@ impl Made {
         match self {
             Made::Lawful(class) => class.name().to_string(),
             Made::Mixed => "mixed".to_string(),
+            Made::Wide => "wide".to_string(),
             Made::Contested(n) => format!("contested-{n}"),
             Made::Worst(n) => format!("worst-{n}"),
             Made::Refused(number) => format!("refused-{number}"),
@@ -48,6 +51,7 @@ impl Made {
         match self {
             Made::Lawful(class) => lawful(class, seed),
             Made::Mixed => write(&shapes::mixed(seed)),
+            Made::Wide => write(&shapes::wide(seed)),
             Made::Contested(n) => write(&shapes::contested(n, seed)),
             Made::Worst(n) => write(&shapes::worst(n, seed)),
             Made::Refused(number) => damaged(number, seed).file,

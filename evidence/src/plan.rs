@@ -11,6 +11,7 @@ pub fn lawful(long: bool) -> Vec<(Made, usize)> {
         (Made::Lawful(Class::Small), of(8_000, 30_000)),
         (Made::Lawful(Class::Mid), of(1_000, 10_000)),
         (Made::Mixed, of(400, 6_000)),
+        (Made::Wide, of(300, 6_000)),
         (Made::Contested(64), of(60, 1_000)),
         (Made::Contested(128), of(12, 200)),
         (Made::Contested(256), of(3, 40)),

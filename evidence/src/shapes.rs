@@ -115,6 +115,56 @@ pub fn mixed(seed: u64) -> Round {
     }
 }
 
+/// A round of 257 to 512 candidates, 512 as often as not, with short rows, so that numbers and places of two bytes come often and cheaply.
+pub fn wide(seed: u64) -> Round {
+    let mut random = Random::new(seed);
+    let n = random.pick(&[512, 0]).max(random.from_to(257, 512));
+    let m = random.from_to(4, 32);
+    let types = random.pick(&[0, 1, 2, 3, 8]);
+    let each = random.from_to(1, 600 / m / 5 + 1);
+    let longest = random.from_to(1, 4);
+    let institutes = (0..m)
+        .map(|_| {
+            let mut institute = bare(types);
+            for category in 0..5 {
+                let positions = random.from_to(0, each);
+                let held = random.from_to(0, positions / 2);
+                let reserved = spread(&mut random, types, held);
+                put(&mut institute, category, positions, reserved);
+            }
+            institute
+        })
+        .collect();
+    let candidates = (0..n)
+        .map(|_| {
+            let code = random.pick(&[0, 1, 2, 3, 4]);
+            let mut row = entries(m, code);
+            random.shuffle(&mut row);
+            row.truncate(random.from_to(0, longest));
+            let all = random.from_to(0, (1 << types) - 1);
+            Candidate {
+                code,
+                marks: all as u8 & random.bits() as u8,
+                row,
+            }
+        })
+        .collect();
+    let merit = (0..m)
+        .map(|_| {
+            let mut list: Vec<usize> = (0..n).collect();
+            random.shuffle(&mut list);
+            list
+        })
+        .collect();
+    Round {
+        types,
+        policy: random.pick(&[0, 1, 1]),
+        institutes,
+        candidates,
+        merit,
+    }
+}
+
 /// The contested shape at n candidates, a multiple of 64: eight institutes with n / 64 positions in each category, half of them reserved for 8 types, like rows of all entries, and merit against the order of going.
 pub fn contested(n: usize, seed: u64) -> Round {
     let mut random = Random::new(seed);
