@@ -3,10 +3,10 @@
 use crate::files::Made;
 use second::generate::Class;
 
-/// The classes of lawful files with how many of each, in the short or the long form.
+/// The classes of lawful files with how many of each, in the short or the long form; the short form has none of the slowest.
 pub fn lawful(long: bool) -> Vec<(Made, usize)> {
     let of = |short, more| if long { more } else { short };
-    vec![
+    let mut classes = vec![
         (Made::Lawful(Class::Tiny), of(20_000, 60_000)),
         (Made::Lawful(Class::Small), of(8_000, 30_000)),
         (Made::Lawful(Class::Mid), of(1_000, 10_000)),
@@ -19,8 +19,11 @@ pub fn lawful(long: bool) -> Vec<(Made, usize)> {
         (Made::Lawful(Class::Contested), of(3, 100)),
         (Made::Lawful(Class::Crowded), of(6, 200)),
         (Made::Worst(128), of(20, 400)),
-        (Made::Worst(512), of(1, 12)),
-    ]
+        (Made::Worst(256), of(3, 40)),
+        (Made::Worst(512), of(0, 12)),
+    ];
+    classes.retain(|&(_, count)| count > 0);
+    classes
 }
 
 /// The classes of damaged files with how many of each.
