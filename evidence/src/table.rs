@@ -15,17 +15,19 @@ fn short(number: f64) -> String {
 /// The lines of a table.
 fn table(rows: &[Measured]) -> String {
     let mut text = String::from(
-        "| class | n | offers | unit, median µs | unit, best µs | unit, offers a second | second, median µs | second, best µs | second, offers a second | second / unit |\n\
-         |---|---:|---:|---:|---:|---:|---:|---:|---:|---:|\n",
+        "| class | n | offers | calls timed, unit / second | unit, median µs | unit, best µs | unit, offers a second | second, median µs | second, best µs | second, offers a second | second / unit |\n\
+         |---|---:|---:|---:|---:|---:|---:|---:|---:|---:|---:|\n",
     );
     for row in rows {
         let rate = |median: f64| short(row.offers / median * 1e6);
         let _ = writeln!(
             text,
-            "| {} | {} | {} | {} | {} | {} | {} | {} | {} | {} |",
+            "| {} | {} | {} | {} / {} | {} | {} | {} | {} | {} | {} | {} |",
             row.name,
             row.n,
             short(row.offers),
+            row.unit.calls,
+            row.second.calls,
             short(row.unit.median),
             short(row.unit.best),
             rate(row.unit.median),
@@ -51,12 +53,11 @@ fn processor() -> String {
 
 /// The whole page; the plot stands under this name beside it.
 pub fn page(classes: &[Measured], growth: &[Measured], stack: &str, plot: &str) -> String {
-    let calls: usize = classes.iter().chain(growth).map(|row| row.unit.calls).sum();
     format!(
         "# What a call costs\n\n\
          Written by `./bench`: one process, one core of {}, both built for release, the same files for the unit and the second\n\
-         program. A class has 1 to 20 files; each time is the mean over them of the median, or the best, of many calls ({calls} calls\n\
-         of the unit in all). n is the largest number of candidates. The worst ones are hard on the\n\
+         program. A class has 1 to 20 files; each time is the mean over them of the median, or the best, of the calls timed, three\n\
+         of each file at least. n is the largest number of candidates. The worst ones are hard on the\n\
          placing search: one institute, half of all candidates too many for its 8 types (`evidence/src/shapes.rs`).\n\n\
          {}\n## Cost over n\n\nThe contested shape, all but n and the positions equal.\n\n{}\n![cost over n]({plot})\n\n\
          ## Stack\n\n{stack}",
