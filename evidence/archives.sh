@@ -1,4 +1,4 @@
-# Read by ./compare and ./bench: makes the archives of the unit that are missing or older than the sources.
+# Read by ./compare and ./bench: makes the archives that are missing or older than the sources.
 
 # fresh NAME: whether the archive of a crate is there and newer than every source.
 fresh() {
@@ -21,11 +21,5 @@ made() {
     fi
 }
 
-# holds NAME FUNCTION: whether the archive of a crate defines the function.
-holds() {
-    nm -g --defined-only "target/staticlib/lib$1.a" 2>/dev/null | grep -q " T $2\$"
-}
-
 made allotment || return 1
-holds allotment tazbilk_verdict || made round || return 1
-holds allotment tazbilk_choose || made choice || return 1
+made probe || return 1

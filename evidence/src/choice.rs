@@ -2,6 +2,7 @@
 
 use crate::area::Area;
 use crate::difference::{area_text, hex, Difference};
+use crate::probe;
 use crate::tally::Came;
 use second::choice::{Document, Offer, Rule};
 use second::random::Random;
@@ -133,7 +134,7 @@ pub fn compare(random: &mut Random, case: &Case) -> (Came, Option<Difference>) {
     let mut steps = Area::new(random, case.offers.len());
     let mut due = steps.clone();
     let body = case.body();
-    let said = tazbilk::choose(
+    probe::choose(
         &body,
         case.types,
         case.policy,
@@ -142,16 +143,12 @@ pub fn compare(random: &mut Random, case: &Case) -> (Came, Option<Difference>) {
         steps.lent(),
     );
     due.lent().copy_from_slice(&case.due());
-    if said.is_ok() && steps == due {
+    if steps == due {
         return (Came::Accepted, None);
     }
     let text = |own: &Area, other: &Area| {
         let place = area_text("steps", own, other);
         format!("steps {}{place}", hex(own.seen()))
-    };
-    let unit = match said {
-        Ok(()) => text(&steps, &due),
-        Err(unmet) => unmet.to_string(),
     };
     let difference = Difference {
         asked: format!(
@@ -161,7 +158,7 @@ pub fn compare(random: &mut Random, case: &Case) -> (Came, Option<Difference>) {
             case.offers.len()
         ),
         input: [body, case.marks.clone(), case.offers.clone()].concat(),
-        unit,
+        unit: text(&steps, &due),
         second: text(&due, &steps),
     };
     (Came::Accepted, Some(difference))

@@ -11,6 +11,7 @@ pub mod files;
 pub mod measure;
 pub mod plan;
 pub mod plot;
+pub mod probe;
 pub mod program;
 pub mod shapes;
 pub mod stack;

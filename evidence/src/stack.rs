@@ -4,6 +4,7 @@
 
 use crate::choice::Case;
 use crate::files::Made;
+use crate::probe;
 use second::generate::Class;
 use second::random::Random;
 use std::arch::asm;
@@ -82,7 +83,7 @@ pub fn text() -> String {
         tazbilk::allot(file, &mut *answer.borrow_mut(), &mut *work.borrow_mut());
     });
     let verdict = greatest(&files, |file| {
-        let _ = tazbilk::verdict(file);
+        let _ = probe::verdict(file);
     });
     let mut random = Random::new(1);
     let mut choose = 0;
@@ -91,7 +92,7 @@ pub fn text() -> String {
         let body = case.body();
         let mut steps = vec![0; case.offers.len()];
         choose = choose.max(depth(&mut || {
-            let _ = tazbilk::choose(
+            probe::choose(
                 &body,
                 case.types,
                 case.policy,

@@ -1,13 +1,14 @@
 //! One verdict of the unit against the second program's reading.
 
 use crate::difference::Difference;
+use crate::probe;
 use crate::tally::Came;
 use second::reading::read;
 use tazbilk::Refusal;
 
 /// Puts questions 1 to 13 to a file with each and compares what they answer.
 pub fn compare(file: &[u8]) -> (Came, Option<Difference>) {
-    let said = tazbilk::verdict(file);
+    let said = probe::verdict(file);
     let due = match read(file) {
         Ok(_) => Ok(()),
         Err(refusal) => Err(Refusal {

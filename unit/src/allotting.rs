@@ -1,8 +1,7 @@
-//! The allotment call, and its reading of the file alone.
+//! The allotment call.
 
 use crate::answer::Answer;
-use crate::boundary::{tazbilk_allot, tazbilk_verdict};
-use crate::refusal::Refusal;
+use crate::boundary::tazbilk_allot;
 
 /// Allots the seats of a round file; what both areas hold afterwards is fixed by document 01 for every file.
 pub fn allot(file: &[u8], answer: &mut [u8], work: &mut [u8]) -> Answer {
@@ -20,15 +19,4 @@ pub fn allot(file: &[u8], answer: &mut [u8], work: &mut [u8]) -> Answer {
         );
     }
     Answer::of(result)
-}
-
-/// Puts questions 1 to 13 to a file.
-pub fn verdict(file: &[u8]) -> Result<(), Refusal> {
-    let mut result = [0; 2];
-    // SAFETY: the unit reads the file within the length given, writes the result only, and asks for nothing else.
-    unsafe { tazbilk_verdict(file.as_ptr(), file.len(), &mut result) };
-    match result.map(|number| number as usize) {
-        [0, 0] => Ok(()),
-        [number, offset] => Err(Refusal { number, offset }),
-    }
 }

@@ -13,12 +13,10 @@
 mod allotting;
 mod answer;
 mod boundary;
-mod choosing;
 mod refusal;
 mod sizes;
 
-pub use allotting::{allot, verdict};
+pub use allotting::allot;
 pub use answer::Answer;
-pub use choosing::{choose, Unmet};
 pub use refusal::Refusal;
 pub use sizes::{answer_size, work_size, ANSWER_MOST, FILE_MOST, WORK_MOST};

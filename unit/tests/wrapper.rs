@@ -1,14 +1,8 @@
-//! The wrapper on file A: the answer, both areas, the refusals in words, and what the choice asks for.
+//! The wrapper on file A: the answer, both areas, and the refusals in words.
 
-use tazbilk::{
-    allot, answer_size, choose, verdict, work_size, Answer, Refusal, Unmet, ANSWER_MOST, FILE_MOST,
-    WORK_MOST,
-};
+use tazbilk::{allot, answer_size, work_size, Answer, Refusal, ANSWER_MOST, FILE_MOST, WORK_MOST};
 
 const A: &[u8] = include_bytes!("../../rounds/a.round");
-
-/// The body of file A's institute: one open position reserved for type 1, one OBC position.
-const BODY: &[u8] = &[1, 0, 1, 0, 0, 0, 0, 0, 0, 0, 0, 0, 1, 0, 0, 0, 0, 0, 0, 0];
 
 /// The refusal with this number at this byte.
 fn refused(number: usize, offset: usize) -> Answer {
@@ -61,50 +55,4 @@ fn a_refusal_says_what_is_wrong() {
     meanings.sort();
     meanings.dedup();
     assert_eq!(meanings.len(), 14);
-}
-
-#[test]
-fn a_verdict_asks_nothing_of_areas() {
-    assert_eq!(verdict(A), Ok(()));
-    assert_eq!(
-        verdict(&[]),
-        Err(Refusal {
-            number: 1,
-            offset: 0
-        })
-    );
-}
-
-#[test]
-fn an_institute_chooses_by_places() {
-    let mut steps = [9; 3];
-    // Place 1 offers open without a mark, place 2 OBC, place 3 open with type 1.
-    let chosen = choose(BODY, 1, 1, &[0, 0, 1], &[1, 4, 1], &mut steps);
-    assert_eq!((chosen, steps), (Ok(()), [0, 4, 1]));
-    let chosen = choose(BODY, 1, 1, &[0, 0, 1], &[1, 1, 1], &mut steps);
-    assert_eq!((chosen, steps), (Ok(()), [6, 0, 1]));
-    let chosen = choose(BODY, 1, 0, &[0, 0, 1], &[1, 1, 0], &mut steps);
-    assert_eq!((chosen, steps), (Ok(()), [1, 0, 0]));
-}
-
-#[test]
-fn what_the_choice_asks_for_is_tested() {
-    let mut steps = [9; 1];
-    let mut asked = |body: &[u8], types, policy, marks: &[u8], offers: &[u8]| {
-        choose(body, types, policy, marks, offers, &mut steps)
-    };
-    assert_eq!(asked(&[0; 100], 9, 0, &[0], &[0]), Err(Unmet::Types));
-    assert_eq!(asked(BODY, 1, 2, &[0], &[0]), Err(Unmet::Policy));
-    assert_eq!(asked(BODY, 2, 0, &[0], &[0]), Err(Unmet::Length));
-    assert_eq!(asked(&[2; 10], 0, 0, &[0], &[0]), Err(Unmet::Positions));
-    let mut body = BODY.to_vec();
-    body[2] = 2;
-    assert_eq!(asked(&body, 1, 0, &[0], &[0]), Err(Unmet::Reserved));
-    assert_eq!(asked(BODY, 1, 0, &[], &[0]), Err(Unmet::Places));
-    assert_eq!(asked(BODY, 1, 0, &[0], &[0, 0]), Err(Unmet::Places));
-    assert_eq!(asked(BODY, 1, 0, &[0], &[6]), Err(Unmet::Offers));
-    let mut many = [0; 513];
-    let refused = choose(BODY, 1, 0, &[0; 513], &[0; 513], &mut many);
-    assert_eq!(refused, Err(Unmet::Places));
-    assert_eq!(steps, [9]);
 }
