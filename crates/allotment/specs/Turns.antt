@@ -1,6 +1,6 @@
 -- One turn of the process as the code takes it (document 01, "Offers"): the institute that gets the new offer chooses from what it holds and
 -- that offer. In a table an offer is one number: 0 for none, or one more than the code of its entry's category.
-use Prim.Native.Nat.{ℕ, suc, _-_, _<_, _≤_}
+use Prim.Native.Nat.{ℕ, suc, _-_, _<_}
 use mathlib.Core.Path.{_≡_}
 use mathlib.Core.Bool.{Bool, cond, not, _&&_}
 use mathlib.Core.List.{List}

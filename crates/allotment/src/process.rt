@@ -5,7 +5,7 @@ use crate::turn::turn;
 use round::access::row_length;
 use round::head::Head;
 use round::word::wide;
-ghost use Prim.Native.Nat.{ℕ, _<_};
+ghost use Prim.Native.Nat.{_<_};
 ghost use mathlib.Core.Path.{_≡_};
 ghost use lib.ListN.{length, replicate};
 ghost use Rattle.round.specs.Lists.{first};

@@ -2,7 +2,7 @@
 use crate::table::narrow;
 use round::access::merit_place;
 ghost use mathlib.Core.Path.{_≡_};
-ghost use Prim.Native.Nat.{ℕ, _<_};
+ghost use Prim.Native.Nat.{_<_};
 ghost use lib.ListN.{length, getD, set};
 ghost use Rattle.round.specs.Records.{headOf};
 ghost use Rattle.round.specs.Reading.{roundOf};

@@ -1,5 +1,5 @@
 -- Filling by merit, one place after the other: what is known at place p, and how it goes on in each case.
-use Prim.Native.Nat.{ℕ, _+_, _-_, _<_}
+use Prim.Native.Nat.{ℕ, _+_, _≤_, _<_, min}
 use mathlib.Core.Path.{_≡_, refl, sym, ap}
 use mathlib.Core.Bool.{Bool, true, false, cond, not, _&&_}
 use mathlib.Core.List.{List}
@@ -18,9 +18,9 @@ abbrev pub seated : ℕ → ℕ → ℕ → List ℕ → List ℕ → List ℕ �
 seated number wanted free offers placed given q =
     cond (seatsAt placed (considersBy offers given wanted) free q) number (getD given q 0)
 
--- the places below p hold what they hold after the step; of the free positions those are vacant that the rest below p leave
-pub record Filled (number wanted free : ℕ) (offers placed given steps : List ℕ) (vacant p : ℕ) : Type 0 where
-  pub vacancy : vacant ≡ free - count p (restAt placed (considersBy offers given wanted))
+-- the places below p hold what they hold after the step; of the rest below p as many got it as positions are free
+pub record Filled (number wanted free : ℕ) (offers placed given steps : List ℕ) (filled p : ℕ) : Type 0 where
+  pub number-filled : filled ≡ min free (count p (restAt placed (considersBy offers given wanted)))
   pub written : Written given steps (seated number wanted free offers placed given) p
 
 and-false : (b : Bool) → (b && false) ≡ false
@@ -39,11 +39,11 @@ module _ (number wanted free : ℕ) (offers placed given : List ℕ) where
       → Filled number wanted free offers placed given l v p
   filled-by p el ev k = rw (el, ev) k
 
-  pub none-filled : Filled number wanted free offers placed given given free 0
-  none-filled = record { vacancy = omega arith; written = begin given _ }
+  pub none-filled : Filled number wanted free offers placed given given 0 0
+  none-filled = record { number-filled = omega arith; written = begin given _ }
 
-  module _ (steps : List ℕ) (vacant p : ℕ) (inside : p < length given)
-      (k : Filled number wanted free offers placed given steps vacant p) where
+  module _ (steps : List ℕ) (filled p : ℕ) (inside : p < length given)
+      (k : Filled number wanted free offers placed given steps filled p) where
     one-more : (b : ℕ) → bit (rest p) ≡ b → count p rest + b ≡ count (p + 1) rest
     one-more b e = count-more rest p (count p rest) b refl e
 
@@ -52,12 +52,12 @@ module _ (number wanted free : ℕ) (offers placed given : List ℕ) where
     considered = ap (λ (x : ℕ). eqb (getD offers p 0) wanted && eqb x 0) (k .written .above p (omega arith))
 
     -- it has a type
-    pub by-type : 0 < getD placed p 0 → Filled number wanted free offers placed given (set steps p number) vacant (p + 1)
+    pub by-type : 0 < getD placed p 0 → Filled number wanted free offers placed given (set steps p number) filled (p + 1)
     by-type l =
         let typed : ltb 0 (getD placed p 0) ≡ true = lt-ltb 0 _ l in
         let out : rest p ≡ false = rw typed (and-false (X p)) in
         record {
-          vacancy = omega (arith, k .vacancy, one-more 0 (bit-false out));
+          number-filled = omega (arith, k .number-filled, one-more 0 (bit-false out));
           written = write given steps _ p number inside (k .written) (rw typed);
         }
 
@@ -66,30 +66,30 @@ module _ (number wanted free : ℕ) (offers placed given : List ℕ) where
       untyped = le-ltb 0 (getD placed p 0) (omega arith)
 
       -- it gets a position by merit
-      pub by-merit : X p ≡ true → 0 < vacant → Filled number wanted free offers placed given (set steps p number) (vacant - 1) (p + 1)
+      pub by-merit : X p ≡ true → filled < free → Filled number wanted free offers placed given (set steps p number) (filled + 1) (p + 1)
       by-merit in-play l =
           let left : rest p ≡ true = rw (untyped, in-play) in
-          let room : ltb (count p rest) free ≡ true = lt-ltb (count p rest) free (omega (arith, k .vacancy)) in
+          let room : ltb (count p rest) free ≡ true = lt-ltb (count p rest) free (omega (arith, k .number-filled)) in
           record {
-            vacancy = omega (arith, k .vacancy, one-more 1 (bit-true left));
+            number-filled = omega (arith, k .number-filled, one-more 1 (bit-true left));
             written = write given steps _ p number inside (k .written) (rw (untyped, in-play, room));
           }
 
       -- it is not considered
-      pub left-out : X p ≡ false → Filled number wanted free offers placed given steps vacant (p + 1)
+      pub left-out : X p ≡ false → Filled number wanted free offers placed given steps filled (p + 1)
       left-out out =
           let gone : rest p ≡ false = rw out in
           record {
-            vacancy = omega (arith, k .vacancy, one-more 0 (bit-false gone));
+            number-filled = omega (arith, k .number-filled, one-more 0 (bit-false gone));
             written = keep given steps _ p (k .written) (rw (untyped, out));
           }
 
       -- no position is free
-      pub no-room : vacant ≡ 0 → Filled number wanted free offers placed given steps vacant (p + 1)
+      pub no-room : free ≤ filled → Filled number wanted free offers placed given steps filled (p + 1)
       no-room z =
-          let full : ltb (count p rest) free ≡ false = le-ltb (count p rest) free (omega (arith, k .vacancy)) in
+          let full : ltb (count p rest) free ≡ false = le-ltb (count p rest) free (omega (arith, k .number-filled)) in
           let nobody : seatsAt placed X free p ≡ false = rw (untyped, full) (and-false (X p && true)) in
           record {
-            vacancy = omega (arith, k .vacancy, one-more (bit (rest p)) refl);
+            number-filled = omega (arith, k .number-filled, one-more (bit (rest p)) refl);
             written = keep given steps _ p (k .written) (sym (ap (λ (b : Bool). cond b number (getD given p 0)) nobody));
           }

@@ -1,5 +1,5 @@
 -- One step: the places with a type and the rest that fill are those that the step takes.
-use Prim.Native.Nat.{ℕ, zero, suc, _+_, _-_, _≤_, _<_}
+use Prim.Native.Nat.{ℕ, zero, suc, _+_, _-_, _≤_, _<_, min}
 use mathlib.Core.Path.{_≡_, refl, sym, ap, _∙_}
 use mathlib.Core.Bool.{Bool, true, false, cond, not, _&&_, _||_}
 use mathlib.Core.List.{List, _++_}
@@ -97,9 +97,9 @@ module _ (reserved marks placed : List ℕ) (X : ℕ → Bool) (positions used :
       apart true false l = refl
       apart false x l = omega arith
 
-  pub vacant-same : (free vacant : ℕ) → free ≡ positions - used → vacant ≡ free - count n (restAt placed X)
+  pub vacant-same : (free filled vacant : ℕ) → free ≡ positions - used → filled ≡ min free (count n (restAt placed X)) → vacant ≡ free - filled
       → vacant ≡ stepVacant reserved marks X positions
-  vacant-same free vacant f v =
+  vacant-same free filled vacant f e v =
       omega (
         arith,
         k .number,
@@ -112,13 +112,13 @@ module _ (reserved marks placed : List ℕ) (X : ℕ → Bool) (positions used :
       merit = unfold takenByMerit in left-same (remaining reserved marks X) (count n H) positions n .1
 
 -- what filling says of the types and the positions left is what the step says
-pub step-done : (reserved marks placed placed′ given steps : List ℕ) (X : ℕ → Bool) (number positions used free vacant : ℕ)
+pub step-done : (reserved marks placed placed′ given steps : List ℕ) (X : ℕ → Bool) (number positions used free filled vacant : ℕ)
     → Took reserved marks placed X used → placed′ ≡ placed → length given ≡ length marks → free ≡ positions - used
-    → steps ≡ numbered (length given) number (seatsAt placed′ X free) given → vacant ≡ free - count (length given) (restAt placed′ X)
+    → steps ≡ numbered (length given) number (seatsAt placed′ X free) given → filled ≡ min free (count (length given) (restAt placed′ X)) → vacant ≡ free - filled
     → (steps ≡ stepGiven number reserved marks X positions given) × (vacant ≡ stepVacant reserved marks X positions)
-step-done reserved marks placed placed′ given steps X number positions used free vacant k same len left s v = (
+step-done reserved marks placed placed′ given steps X number positions used free filled vacant k same len left s f v = (
   rw (same, len, left) at s ∙ numbered-same (length marks) number _ _ given (seats-same reserved marks placed X positions used k),
-  vacant-same reserved marks placed X positions used k free vacant left (rw (same, len) at v),
+  vacant-same reserved marks placed X positions used k free filled vacant left (rw (same, len) at f) v,
 )
 
 pub sized : (n : ℕ) {l : List ℕ} → l ≡ replicate n zero → length l ≡ n

@@ -13,10 +13,6 @@ use Rattle.choice.specs.Use.{holds, Placing}
 abbrev pub atType : List ℕ → ℕ → ℕ
 atType placed t = count (length placed) (λ p. eqb (getD placed p 0) (suc t))
 
--- how many types are not visited
-abbrev pub unvisited : List ℕ → ℕ
-unvisited visited = count (length visited) (λ t. eqb (getD visited t 0) 0)
-
 -- what a search for the one at place c starts from
 pub record Searching (reserved marks placed visited : List ℕ) (c : ℕ) : Type 0 where
   pub few : length reserved ≤ 8

@@ -1,13 +1,13 @@
 // The positions that are left go by merit to those left.
 use crate::take::considers;
 ghost use mathlib.Core.Path.{_≡_};
-ghost use Prim.Native.Nat.{_-_};
+ghost use Prim.Native.Nat.{min};
 ghost use lib.ListN.{length};
 ghost use Rattle.round.specs.Lists.{count};
 ghost use Rattle.choice.specs.Offers.{considersBy};
 ghost use Rattle.choice.specs.Fill.{restAt, seatsAt, numbered};
 
-// Gives the step's number to each place that has a type and to the best of the rest, as far as positions are free; returns what is vacant.
+// Gives the step's number to each place that has a type and to the best of the rest, as far as positions are free; returns how many of the rest got it.
 pub fn fill(
     free: usize,
     number: u8,
@@ -18,18 +18,18 @@ pub fn fill(
 ) -> usize
     requires { ⌜ (length (now offers) ≡ length (now steps)) × (length (now placed) ≡ length (now steps)) ⌝ }
     ensures { λ r. ⌜ (now (steps .exit) ≡ numbered (length (now (steps .entry))) number (seatsAt (now (placed .entry)) (considersBy (now (offers .entry)) (now (steps .entry)) wanted) free) (now (steps .entry)))
-        × (r ≡ free - count (length (now (steps .entry))) (restAt (now (placed .entry)) (considersBy (now (offers .entry)) (now (steps .entry)) wanted))) ⌝ }
+        × (r ≡ min free (count (length (now (steps .entry))) (restAt (now (placed .entry)) (considersBy (now (offers .entry)) (now (steps .entry)) wanted)))) ⌝ }
 {
-    let mut vacant = free;
+    let mut filled = 0;
     for p in 0..steps.len() {
         if placed[p] != 0 {
             steps[p] = number;
-        } else if 0 < vacant {
+        } else if filled < free {
             if considers(offers, steps, wanted, p) {
                 steps[p] = number;
-                vacant -= 1;
+                filled += 1;
             }
         }
     }
-    vacant
+    filled
 }

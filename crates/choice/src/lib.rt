@@ -5,11 +5,11 @@ pub mod positions;
 pub mod step;
 pub mod take;
 
-use placing::wide;
-use positions::positions_of;
 use positions::reserved_of;
 use round::entry::Category;
 use round::entry::code_of;
+use round::institute::positions_in;
+use round::word::wide;
 use step::step;
 ghost use mathlib.Core.Path.{_≡_};
 ghost use Prim.Native.Nat.{_+_, _*_, _≤_};
@@ -53,7 +53,7 @@ fn own_step(
     let at = wide(code);
     let mut reserved = none_reserved();
     reserved_of(body, types, at, &mut reserved[..types]);
-    let positions = positions_of(body, types, at);
+    let positions = positions_in(body, types, at);
     step(
         &reserved[..types],
         positions,

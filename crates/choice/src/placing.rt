@@ -1,4 +1,5 @@
 // The search for a place: a type for one more applicant, who may make others move.
+use round::word::wide;
 ghost use mathlib.Core.Path.{_≡_};
 ghost use mathlib.Core.Bool.{_&&_};
 ghost use Prim.Native.Nat.{suc, _+_, _≤_, _<_};
@@ -11,13 +12,6 @@ ghost use Rattle.choice.specs.Search.{atType, Searching, Searched};
 pub enum Found {
     At(usize),
     Nothing,
-}
-
-// A byte as a number.
-pub fn wide(x: u8) -> usize
-    ensures { λ r. ⌜ (r ≡ x) × (r < 256) ⌝ }
-{
-    x as usize
 }
 
 // Whether the marks have type t.

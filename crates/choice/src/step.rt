@@ -14,7 +14,7 @@ fn no_types() -> [u8; 512]
     [0u8; 512]
 }
 
-// The positions that those taken for use leave.
+// The positions that so many leave.
 fn left_of(positions: usize, used: usize) -> usize
     ensures { λ r. ⌜ r ≡ positions - used ⌝ }
 {
@@ -43,5 +43,6 @@ pub fn step(
     let mut types = no_types();
     let used = take_for_use(reserved, marks, offers, steps, wanted, &mut types[..n]);
     let free = left_of(positions, used);
-    fill(free, number, offers, wanted, &types[..n], steps)
+    let filled = fill(free, number, offers, wanted, &types[..n], steps);
+    left_of(free, filled)
 }

@@ -1,15 +1,15 @@
 -- What it says of a record that its questions were answered yes, as facts.
-use Prim.Native.Nat.{ℕ, zero, suc, _+_, _*_, _-_, _/_, _%_, _^_, _<_, _≤_, min}
-use mathlib.Core.Path.{_≡_, refl, sym, ap, _∙_}
-use mathlib.Core.Bool.{Bool, true, false, cond, _&&_, _||_}
+use Prim.Native.Nat.{ℕ, _+_, _*_, _%_, _^_, _<_, _≤_}
+use mathlib.Core.Path.{_≡_}
+use mathlib.Core.Bool.{Bool, true, _&&_, _||_}
 use mathlib.Core.Logic.{_⊎_, inl, inr, ⊎-elim}
-use mathlib.Core.List.{List, [], _∷_, _++_}
+use mathlib.Core.List.{List}
 use native.Mathlib.Omega.{arith}
 use borrow.Author.Tests.{leb-true, eqb-true, eqb-false}
 use lib.Dec.{leb, eqb}
-use lib.ListN.{length, getD, take, drop, length-take, length-drop}
-use Rattle.round.specs.Lists.{sumOf, all, apart}
-use Rattle.round.specs.Records.{Head, headIn, word, kindAt, lengthAt, bodyAt}
+use lib.ListN.{length, getD, drop, length-take, length-drop}
+use Rattle.round.specs.Lists.{sumOf}
+use Rattle.round.specs.Records.{Head, headIn, kindAt, lengthAt, bodyAt}
 use Rattle.round.specs.Questions.{within, even, lengthAllowed, firstNo, questionsAt, kindQuestions, headQuestions, instituteQuestions, candidateQuestions, meritQuestions, positionsIn, reservedIn, entryCount, instituteIn, codeIn, meritCount, meritIn}
 use Rattle.round.specs.Read.{InRange}
 use Rattle.round.proofs.Words.{and-fst, and-snd, and-no, or-cases, all-at, apart-at}

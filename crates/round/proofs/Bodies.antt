@@ -1,7 +1,6 @@
 -- Where the records of an accepted file stand, and what their bodies mean.
-use Prim.Native.Nat.{ℕ, zero, suc, _+_, _*_, _-_, _/_, _<_, _≤_}
-use mathlib.Core.Path.{_≡_, refl, sym, ap, ap₂, _∙_}
-use mathlib.Core.Bool.{Bool, true, false, cond}
+use Prim.Native.Nat.{ℕ, zero, suc, _+_, _*_, _<_, _≤_}
+use mathlib.Core.Path.{_≡_, sym, ap, ap₂, _∙_}
 use mathlib.Core.List.{List}
 use native.Mathlib.Omega.{arith}
 use lib.ListN.{length, getD}
@@ -10,12 +9,11 @@ use Rattle.round.specs.declared.entry.Category.{Category}
 use Rattle.round.specs.declared.entry.Entry.{Entry}
 use Rattle.round.specs.Category.{categoryOf}
 use Rattle.round.specs.Lists.{tabulate}
-use Rattle.round.specs.Records.{Head, headOf, lengthAt, bodyAt, nextAt, startOf, bodyOf, instituteRecord, candidateRecord, meritRecord}
+use Rattle.round.specs.Records.{Head, headOf, lengthAt, bodyAt, startOf, bodyOf, instituteRecord, candidateRecord, meritRecord}
 use Rattle.round.specs.Questions.{entryCount, instituteIn, codeIn, meritCount, meritIn}
 use Rattle.round.specs.Round.{Candidate, Institute}
 use Rattle.round.specs.Reading.{stepsIn, entryIn, candidateIn, instituteFrom}
 use Rattle.round.specs.Places.{entryAt, meritAt, noEntry}
-use Rattle.round.specs.Read.{asHead, InRange, CandidateBody, InstituteBody}
 use Rattle.round.specs.Access.{candidateOf, instituteOf, CandidateKnown, MeritKnown, InstituteKnown, CandidateRead, MeritRead, BodyRead}
 use Rattle.round.proofs.Words.{length-tabulate, tabulate-at}
 use Rattle.round.proofs.Passed.{Passed, passed}

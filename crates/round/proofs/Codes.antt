@@ -1,13 +1,12 @@
 -- What a code byte stands for, by the code's own tests.
 use Prim.Native.Nat.{ℕ, _<_}
-use mathlib.Core.Path.{_≡_, refl, sym, ap, _∙_}
+use mathlib.Core.Path.{_≡_, refl}
 use mathlib.Core.Bool.{Bool, true, false, cond}
 use native.Mathlib.Omega.{arith}
 use borrow.Author.Tests.{leb-false, ne-eqb}
-use lib.Dec.{leb, eqb}
+use lib.Dec.{leb}
 use Rattle.round.specs.declared.entry.Category.{Category}
 use Rattle.round.specs.declared.entry.Category.the-variants.{Open}
-use Rattle.round.specs.declared.entry.Coded.{Coded}
 use Rattle.round.specs.declared.entry.Coded.the-variants.{Known, Unknown}
 use Rattle.round.specs.Category.{categoryOf, codedBy}
 

@@ -1,19 +1,18 @@
 -- What a file that is not refused has been asked: every question of each of its records was answered yes, and the file
 -- ends with the last one.
-use Prim.Native.Nat.{ℕ, zero, suc, _+_, _*_, _-_, _<_, _≤_}
+use Prim.Native.Nat.{ℕ, zero, suc, _+_, _<_}
 use mathlib.Core.Path.{_≡_, refl, sym, ap, _∙_}
 use mathlib.Core.Bool.{Bool, true, false, cond}
 use mathlib.Core.List.{List, [], _∷_, _++_}
 use native.Mathlib.Omega.{arith}
-use native.Mathlib.Nat.{add-zero, add-suc, suc-add, zero-add}
-use borrow.Author.Tests.{leb-true, eqb-true, ne-eqb}
-use lib.Dec.{leb, eqb}
+use native.Mathlib.Nat.{add-zero}
+use borrow.Author.Tests.{eqb-true, ne-eqb}
+use lib.Dec.{eqb}
 use lib.ListN.{length, getD, replicate, length-append, length-replicate, getD-replicate, List·getD-append}
 use lib.Seq.{getD-append-add}
 use Rattle.round.specs.Records.{Head, headOf, dueAfter, nextAt, startOf, instituteRecord, candidateRecord, meritRecord, recordCount}
-use Rattle.round.specs.Questions.{Question, asked, firstNo, questionsAt}
-use Rattle.round.specs.Refusal.{Verdict, passes, refused, ending, judged, verdictFrom, verdict}
-use Rattle.round.proofs.Words.{clash}
+use Rattle.round.specs.Questions.{firstNo, questionsAt}
+use Rattle.round.specs.Refusal.{Verdict, passes, refused, ending, verdictFrom, verdict}
 
 -- a refusal is no pass
 pub refusal : {A : Type 0} {n at : ℕ} → refused n at ≡ passes → A

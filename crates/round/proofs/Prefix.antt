@@ -1,20 +1,19 @@
 -- The longest lawful file has 55,372 bytes, and the first 55,373 bytes of any file decide its verdict.
-use Prim.Native.Nat.{ℕ, zero, suc, _+_, _*_, _-_, _<_, _≤_, min}
+use Prim.Native.Nat.{ℕ, zero, suc, _+_, _*_, _≤_}
 use mathlib.Core.Path.{_≡_, refl, sym, ap, ap₂, _∙_}
 use mathlib.Core.Bool.{Bool, true, false, cond, _&&_}
-use mathlib.Core.Logic.{_⊎_, inl, inr, ⊎-elim}
 use mathlib.Core.List.{List, [], _∷_, _++_}
 use native.Mathlib.Omega.{arith}
 use native.Mathlib.Nat.{mul-le-mul}
-use borrow.Author.Tests.{leb-true, leb-false, le-leb, eq-eqb, ne-eqb, eqb-true}
+use borrow.Author.Tests.{leb-true, leb-false, le-leb, ne-eqb, eqb-true}
 use lib.Dec.{leb, eqb}
-use lib.ListN.{length, getD, take, drop, replicate, length-take}
+use lib.ListN.{length, take, drop, replicate, length-take}
 use lib.Seq.{getD-take, take-take, take-all}
 use Rattle.round.specs.Records.{Head, headIn, headOf, dueAfter, word, kindAt, lengthAt, bodyAt, nextAt}
 use Rattle.round.specs.Questions.{within, even, firstNo, questionsAt, kindQuestions, lengthAllowed}
-use Rattle.round.specs.Refusal.{Verdict, passes, refused, ending, judged, verdictFrom, verdict}
+use Rattle.round.specs.Refusal.{Verdict, passes, refused, verdictFrom, verdict}
 use Rattle.round.specs.Read.{InRange}
-use Rattle.round.proofs.Words.{and-fst, clash}
+use Rattle.round.proofs.Words.{and-fst, append-none}
 use Rattle.round.proofs.Passed.{judged-yes, ending-yes}
 use Rattle.round.proofs.Answers as answers
 use Rattle.round.proofs.Rest.{head-questions}
@@ -58,10 +57,6 @@ total-due h y =
       y .candidates-most,
     )
   where
-    append-none : (s : List ℕ) → s ++ [] ≡ s
-    append-none [] = refl
-    append-none (x ∷ s) = ap (λ (t : List ℕ). x ∷ t) (append-none s)
-
     by-types : (t : ℕ) → t ≤ 8 → 4 + (10 + 10 * t) ≤ 94
     by-types t l = omega arith
 

@@ -1,23 +1,24 @@
 -- What the records after the head come to, put together from the three kinds in a row; and the whole file.
-use Prim.Native.Nat.{ℕ, zero, suc, _+_, _-_, _<_, _≤_}
-use mathlib.Core.Path.{_≡_, refl, sym, ap, ap₂, _∙_}
+use Prim.Native.Nat.{ℕ, _+_, _-_, _≤_}
+use mathlib.Core.Path.{_≡_, refl, sym, ap, _∙_}
 use mathlib.Core.Bool.{Bool, true, false, cond}
-use mathlib.Core.List.{List, [], _∷_, _++_}
+use mathlib.Core.List.{List, [], _++_}
 use native.Mathlib.Omega.{arith}
 use borrow.Author.Tests.{eq-eqb, ne-eqb}
 use lib.Dec.{eqb}
-use lib.ListN.{length, getD, take, drop, replicate}
+use lib.ListN.{length, take, drop, replicate}
 use Rattle.round.specs.declared.records.Part.{Part}
 use Rattle.round.specs.declared.records.Part.the-variants.{Lawful, Refused as PartRefused}
 use Rattle.round.specs.declared.head.Head.{Head as CodeHead}
 use Rattle.round.specs.declared.reader.Reading.{Reading}
 use Rattle.round.specs.declared.reader.Reading.the-variants.{Read, Refused}
-use Rattle.round.specs.Records.{Head, headIn, headOf, dueAfter, lengthAt, bodyAt, nextAt, startOf, candidateRecord, meritRecord}
-use Rattle.round.specs.Questions.{firstNo, questionsAt, headQuestions}
-use Rattle.round.specs.Refusal.{Verdict, passes, refused, ending, verdictFrom, verdict}
+use Rattle.round.specs.Records.{Head, headIn, headOf, dueAfter, lengthAt, bodyAt, nextAt, startOf}
+use Rattle.round.specs.Questions.{firstNo, questionsAt}
+use Rattle.round.specs.Refusal.{Verdict, passes, refused, verdictFrom, verdict}
 use Rattle.round.specs.Read.{asHead, InRange}
 use Rattle.round.specs.Parts.{partBy, onward, RunPart, RunRead}
-use Rattle.round.specs.Outcome.{verdictOf, handedUp, Starts, RestRead, RoundRead}
+use Rattle.round.specs.Outcome.{verdictOf, handedUp, RestRead, RoundRead}
+use Rattle.round.proofs.Words.{append-none}
 use Rattle.round.proofs.Answers as answers
 use Rattle.round.proofs.Found.{part-lawful}
 
@@ -27,10 +28,6 @@ not-read {A} {r} {n} {o} k e d = let z : _≡_ {A = ℕ} 0 1 = cc in absurd (fal
   where
     false-eq : _≡_ {A = ℕ} 0 1 → ⊥
     false-eq z = omega arith
-
-append-none : (s : List ℕ) → s ++ [] ≡ s
-append-none [] = refl
-append-none (x ∷ s) = ap (λ (t : List ℕ). x ∷ t) (append-none s)
 
 module _ (file : List ℕ) (k : CodeHead) (from : ℕ) where
   h : Head

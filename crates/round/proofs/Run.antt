@@ -1,9 +1,8 @@
 -- Reading records of one kind, one after the other: what holds after some of them.
-use Prim.Native.Nat.{ℕ, zero, suc, _+_, _-_, _<_, _≤_}
-use mathlib.Core.Path.{_≡_, refl, sym, ap, ap₂, _∙_}
+use Prim.Native.Nat.{ℕ, suc, _+_, _-_, _<_, _≤_}
+use mathlib.Core.Path.{_≡_, refl, sym, ap, _∙_}
 use mathlib.Core.Bool.{Bool, true, false, cond}
-use mathlib.Core.Logic.{_⊎_, inl, inr, ⊎-elim}
-use mathlib.Core.List.{List, [], _∷_, _++_}
+use mathlib.Core.List.{List, _∷_, _++_}
 use native.Mathlib.Omega.{arith}
 use native.Mathlib.Nat.{add-zero, add-suc}
 use native.Mathlib.Numerals.{add-one}
@@ -14,7 +13,7 @@ use Rattle.round.specs.declared.records.Part.{Part}
 use Rattle.round.specs.declared.records.Part.the-variants.{Lawful, Refused}
 use Rattle.round.specs.Records.{Head, nextAt, startOf}
 use Rattle.round.specs.Questions.{firstNo, questionsAt}
-use Rattle.round.specs.Refusal.{Verdict, refused, verdictFrom}
+use Rattle.round.specs.Refusal.{refused, verdictFrom}
 use Rattle.round.specs.Parts.{partBy, onward, RunRead}
 use Rattle.round.proofs.Words.{below-suc}
 use Rattle.round.proofs.Answers as answers

@@ -1,16 +1,17 @@
 -- A table of the numbers seen so far tells whether the next one was seen before (questions 10 and 12).
-use Prim.Native.Nat.{ℕ, zero, suc, _+_, _<_, _≤_}
+use Prim.Native.Nat.{ℕ, zero, suc, _+_, _<_}
 use mathlib.Core.Path.{_≡_, refl, sym, ap, _∙_}
 use mathlib.Core.Bool.{Bool, true, false, not, _&&_, _||_}
 use mathlib.Core.List.{List}
 use native.Mathlib.Omega.{arith}
 use native.Mathlib.Numerals.{add-one}
-use borrow.Author.Tests.{eq-eqb, ne-eqb, eqb-true, eqb-false}
+use borrow.Author.Tests.{eqb-true, eqb-false}
 use lib.Dec.{eqb}
-use lib.ListN.{length, getD, set, replicate, length-set, length-replicate, getD-replicate}
+use lib.ListN.{length, getD, set, length-set, length-replicate, getD-replicate}
 use lib.Seq.{getD-set-same, getD-set-other}
+use Rattle.round.specs.Read.{noneSeen}
 use Rattle.round.specs.Lists.{bit, all, any, apart}
-use Rattle.round.proofs.Words.{all-no, clash}
+use Rattle.round.proofs.Words.{all-no}
 
 -- all are not, where not any is
 all-not : (n : ℕ) (g : ℕ → Bool) → all n (λ k. not (g k)) ≡ not (any n g)
@@ -29,6 +30,10 @@ bit-none : (b : Bool) → (bit b ≡ 1 → ⊥) → b ≡ false
 bit-none true n = absurd (n refl)
 bit-none false n = refl
 
+pub length-none : length noneSeen ≡ 513
+unfolding noneSeen
+length-none = length-replicate {A = ℕ} 513 0
+
 -- two numbers of f are the same
 abbrev pub same : (ℕ → ℕ) → ℕ → ℕ → Bool
 same f p q = eqb (f p) (f q)
@@ -39,7 +44,8 @@ pub record Seen (f : ℕ → ℕ) (i : ℕ) (table : List ℕ) : Type 0 where
   pub told : (x : ℕ) → x < 513 → getD table x 0 ≡ bit (any i (λ p. eqb (f p) x))
   pub different : apart i (same f) ≡ true
 
-pub seen-none : (f : ℕ → ℕ) (table : List ℕ) → table ≡ replicate 513 0 → Seen f 0 table
+pub seen-none : (f : ℕ → ℕ) (table : List ℕ) → table ≡ noneSeen → Seen f 0 table
+unfolding noneSeen
 seen-none f table e = record {
   room = ap length e ∙ length-replicate {A = ℕ} 513 0;
   told = λ x l. ap (λ (t : List ℕ). getD t x 0) e ∙ getD-replicate 513 x 0 0 l;

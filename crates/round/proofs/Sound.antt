@@ -1,23 +1,21 @@
 -- The round of a file that is not refused is sound.
-use Prim.Native.Nat.{ℕ, zero, suc, _+_, _*_, _-_, _/_, _%_, _^_, _<_, _≤_}
+use Prim.Native.Nat.{ℕ, zero, suc, _<_, _≤_}
 use mathlib.Core.Path.{_≡_, refl, sym, ap, _∙_}
 use mathlib.Core.Bool.{Bool, true, false, cond}
-use mathlib.Core.Logic.{_⊎_, inl, inr, ⊎-elim}
-use mathlib.Core.List.{List, [], _∷_, _++_}
+use mathlib.Core.Logic.{inl, inr, ⊎-elim}
+use mathlib.Core.List.{List, [], _∷_}
 use native.Mathlib.Omega.{arith}
-use lib.Dec.{leb, eqb}
+use lib.Dec.{eqb}
 use lib.ListN.{length, getD, replicate, length-replicate}
-use Rattle.round.specs.declared.entry.Category.{Category}
-use Rattle.round.specs.declared.entry.Category.the-variants.{Open}
 use Rattle.round.specs.declared.entry.Entry.{Entry}
 use Rattle.round.specs.Category.{codeOf, categoryOf}
-use Rattle.round.specs.Lists.{sum, sumOf, tabulate}
+use Rattle.round.specs.Lists.{sum, sumOf}
 use Rattle.round.specs.Records.{Head, headOf, lengthAt, bodyAt, bodyOf, startOf, instituteRecord, candidateRecord, meritRecord}
-use Rattle.round.specs.Questions.{firstNo, questionsAt, positionsIn, reservedIn, entryCount, instituteIn, codeIn, meritCount, meritIn}
+use Rattle.round.specs.Questions.{reservedIn, entryCount, instituteIn, codeIn, meritCount, meritIn}
 use Rattle.round.specs.Refusal.{passes, verdict}
-use Rattle.round.specs.Round.{StepRule, Institute, Candidate}
+use Rattle.round.specs.Round.{StepRule}
 use Rattle.round.specs.Reading.{stepIn, dereserved, stepsIn, entryIn, candidateIn, instituteFrom, roundOf}
-use Rattle.round.specs.Places.{candidateAt, instituteAt, entryAt, stepAt, meritAt, noEntry, noCandidate, noInstitute, noStep}
+use Rattle.round.specs.Places.{candidateAt, instituteAt, entryAt, meritAt, noEntry, noCandidate, noInstitute, noStep}
 use Rattle.round.specs.Read.{InRange}
 use Rattle.round.specs.Sound.{SoundCandidate, SoundInstitute, Sound}
 use Rattle.round.proofs.Words.{length-tabulate, tabulate-at, sum-tabulate}

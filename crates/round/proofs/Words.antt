@@ -7,9 +7,9 @@ use mathlib.Core.List.{List, [], _∷_, _++_}
 use native.Mathlib.Omega.{arith}
 use native.Mathlib.Numerals.{add-one}
 use native.Mathlib.Nat.{add-zero, add-suc, suc-add, zero-add, mul-le-mul-left}
-use borrow.Author.Tests.{not-true, not-false, leb-true, eqb-true, le-leb, lt-leb}
+use borrow.Author.Tests.{not-true, not-false, le-leb, lt-leb}
 use Rattle.round.specs.Questions.{within}
-use lib.Dec.{leb, eqb}
+use lib.Dec.{leb}
 use lib.ListN.{length, getD}
 use Rattle.round.specs.Lists.{tabulate, tabulateFrom, sum, sumOf, all, apart}
 
@@ -69,6 +69,10 @@ getD-tabulate s (suc n) f d (suc i) l =
 
 pub tabulate-at : {A : Type 0} (n : ℕ) (f : ℕ → A) (d : A) (i : ℕ) → i < n → getD (tabulate n f) i d ≡ f i
 tabulate-at n f d i l = getD-tabulate 0 n f d i l ∙ ap f (zero-add i)
+
+pub append-none : (s : List ℕ) → s ++ [] ≡ s
+append-none [] = refl
+append-none (x ∷ s) = ap (λ (t : List ℕ). x ∷ t) (append-none s)
 
 -- the sum of f s, .., n in all, with the first taken apart
 pub sumOf-front : (n : ℕ) (f : ℕ → ℕ) → sumOf (suc n) f ≡ f 0 + sumOf n (λ i. f (suc i))

@@ -3,7 +3,7 @@ use Prim.Native.Nat.{ℕ, suc, _+_, _*_, _^_, _≤_}
 use mathlib.Core.Bool.{Bool, _&&_, _||_}
 use mathlib.Core.List.{List}
 use lib.Dec.{leb, eqb}
-use lib.ListN.{length, getD}
+use lib.ListN.{length, getD, replicate}
 use mathlib.Core.Path.{_≡_}
 use Rattle.round.specs.declared.head as code
 use Rattle.round.specs.Records.{Head}
@@ -42,3 +42,7 @@ lawfulIn h body k =
 
 abbrev pub sameIn : List ℕ → ℕ → ℕ → Bool
 sameIn body k l = eqb (instituteIn body k) (instituteIn body l) && eqb (codeIn body k) (codeIn body l)
+
+-- the table of the candidate numbers seen in a merit list, before the first: a place for each number, and for 0
+unfoldable pub noneSeen : List ℕ
+noneSeen = replicate 513 0

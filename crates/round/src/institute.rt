@@ -2,8 +2,7 @@
 use crate::head::Head;
 use crate::word::word;
 ghost use mathlib.Core.Path.{_≡_};
-ghost use Prim.Native.Nat.{ℕ, _+_, _*_, _<_, _≤_};
-ghost use lib.ListN.{length};
+ghost use Prim.Native.Nat.{_+_, _*_, _<_};
 ghost use lib.Dec.{leb};
 ghost use Rattle.round.specs.Lists.{all, sumOf};
 ghost use Rattle.round.specs.Questions.{firstNo, instituteQuestions, positionsIn, reservedIn};

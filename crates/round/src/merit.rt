@@ -3,13 +3,12 @@ use crate::head::Head;
 use crate::word::within;
 use crate::word::word;
 ghost use mathlib.Core.Path.{_≡_};
-ghost use Prim.Native.Nat.{ℕ, _^_, _<_, _≤_};
+ghost use Prim.Native.Nat.{ℕ, _<_};
 ghost use lib.Dec.{eqb};
-ghost use lib.ListN.{length, replicate};
 ghost use Rattle.round.specs.Lists.{all, apart};
 ghost use Rattle.round.specs.Questions as questions;
 ghost use Rattle.round.specs.Questions.{firstNo, meritQuestions, meritCount, meritIn};
-ghost use Rattle.round.specs.Read.{asHead, InRange};
+ghost use Rattle.round.specs.Read.{asHead, InRange, noneSeen};
 
 // The candidate number at a place, from 0.
 pub fn merit_in(body: &[u8], p: usize) -> usize
@@ -34,14 +33,14 @@ fn all_listed(body: &[u8], candidates: usize) -> bool
 
 // A table in which nobody was seen.
 fn nobody_seen() -> [u8; 513]
-    ensures { λ r. ⌜ r ≡ replicate 513 0 ⌝ }
+    ensures { λ r. ⌜ r ≡ noneSeen ⌝ }
 {
     [0; 513]
 }
 
 // Whether all numbers are different, by a table of those seen.
 fn all_unseen(body: &[u8], seen: &mut [u8]) -> bool
-    requires { ⌜ now seen ≡ replicate 513 0 ⌝ }
+    requires { ⌜ now seen ≡ noneSeen ⌝ }
     requires { ⌜ ((p : ℕ) → p < meritCount (now body) → meritIn (now body) p < 513) ⌝ }
     ensures { λ r. ⌜ r ≡ apart (meritCount (now (body .entry))) (λ p q. eqb (meritIn (now (body .entry)) p) (meritIn (now (body .entry)) q)) ⌝ }
 {

@@ -83,15 +83,15 @@ fn read_rest(
         return handed(rows);
     };
     let lists = read_kind(file, end, h, 4, h.institutes, merits);
-    let Part::Lawful { end } = lists else {
+    let Part::Lawful { end: last } = lists else {
         return handed(lists);
     };
-    if end == file.len() {
+    if last == file.len() {
         Reading::Read(h)
     } else {
         Reading::Refused {
             number: 13,
-            offset: end,
+            offset: last,
         }
     }
 }

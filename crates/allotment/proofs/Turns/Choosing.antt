@@ -15,7 +15,7 @@ use Rattle.round.specs.declared.entry.Category.{Category}
 use Rattle.round.specs.declared.entry.Entry.{Entry}
 use Rattle.round.specs.declared.head.Head.{Head as CodeHead}
 use Rattle.round.specs.Category.{codeOf}
-use Rattle.round.specs.Records.{headOf, bodyOf, instituteRecord, meritRecord}
+use Rattle.round.specs.Records.{headOf, bodyOf, instituteRecord}
 use Rattle.round.specs.Round.{StepRule, Institute, Round}
 use Rattle.round.specs.Reading.{stepIn, dereserved, stepsIn, instituteFrom, roundOf}
 use Rattle.round.specs.Places.{candidateAt, instituteAt, entryAt, noStep}
@@ -24,7 +24,6 @@ use Rattle.round.proofs.Sound.{institute-at, length-institutes}
 use Rattle.choice.specs.Choice.{choose}
 use Rattle.choice.specs.Offers.{offeredBy}
 use Rattle.choice.proofs.Below.{choose-below}
-use Rattle.allotment.specs.Rows.{categoryAt}
 use Rattle.allotment.specs.Offers.{candidateOn, placeOn, stepsOn, stepFor}
 use Rattle.allotment.specs.Turns.{stepOffer, offerOf, marksOf, offersBy, holderBy, takesPart, Gathered, Scattered, ChosenAnew, TurnTaken}
 use Rattle.allotment.proofs.Rounds.Places.{meritLength, candidate-at}

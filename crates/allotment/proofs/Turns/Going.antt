@@ -1,5 +1,5 @@
 -- The process as it goes: turns have led to what is tried, the tables hold its seats, and the rest of the turns lead to the end.
-use mathlib.Core.Path.{_≡_, refl, sym, _∙_, ap, subst, subst⁻¹}
+use mathlib.Core.Path.{_≡_, refl, sym, _∙_, ap, subst}
 use mathlib.Core.Bool.{Bool, true, false, cond, _&&_}
 use mathlib.Core.Logic.{_≢_, _⊎_, inl, inr}
 use mathlib.Core.List.{List}
@@ -8,16 +8,15 @@ use native.Mathlib.Omega.{arith}
 use native.Mathlib.Numerals.{add-one}
 use native.Mathlib.Decide.{decLt}
 use lib.Dec.{eqb, ltb}
-use lib.ListN.{length, getD, set, replicate, length-set, length-replicate, getD-replicate}
+use lib.ListN.{length, getD, set, replicate, length-replicate, getD-replicate}
 use borrow.Author.Tests.{ltb-true, lt-ltb, le-ltb, eq-eqb, ne-eqb}
 use Rattle.round.specs.Lists as Lists
 use Rattle.round.specs.Lists.{first}
-use Rattle.round.specs.Category.{codeOf}
 use Rattle.round.specs.Round.{Round}
 use Rattle.round.specs.Sound.{Sound}
 use Rattle.round.proofs.Words.{and-snd}
 use Rattle.allotment.specs.Rows.{rowAt, rankIn, entryOf}
-use Rattle.allotment.specs.Process.{Seat, noSeat, isNone, candidateCount, instituteCount, madeTo, seatsAfter, mayOffer, turn, turns, entryTotal, tried, offersMade, seats}
+use Rattle.allotment.specs.Process.{Seat, noSeat, isNone, candidateCount, madeTo, seatsAfter, mayOffer, turn, turns, entryTotal, tried, offersMade, seats}
 use Rattle.allotment.specs.Held.{HeldIn}
 use Rattle.allotment.specs.Turns.{mayTry, TurnTaken}
 use Rattle.allotment.proofs.Market.Tests.{clash}
@@ -33,7 +32,7 @@ use Rattle.allotment.proofs.Rounds.Bounds.{seats-length}
 use Rattle.allotment.proofs.Turns.NextSeats.{step-offered, Coded, next-held}
 
 -- the first number that passes
-pub first-is : {n i : ℕ} {f : ℕ → Bool} → i < n → ((k : ℕ) → k < i → f k ≡ false) → f i ≡ true → i ≡ first n f
+first-is : {n i : ℕ} {f : ℕ → Bool} → i < n → ((k : ℕ) → k < i → f k ≡ false) → f i ≡ true → i ≡ first n f
 first-is {n} {i} {f} l before here =
     let no : ¬ (first n f < i) = λ m. clash (first-passes n f (omega arith)) (before (first n f) m) in
     omega (arith, first-least n f i here)
@@ -41,7 +40,7 @@ first-is {n} {i} {f} l before here =
 pub first-nobody : {m n i : ℕ} {f : ℕ → Bool} → m ≡ n → ((k : ℕ) → k < i → f k ≡ false) → m ≤ i → m ≡ first n f
 first-nobody {m} {n} {i} {f} e none l = e ∙ sym (first-none n f (λ k b. none k (omega arith)))
 
-pub first-same : (n : ℕ) (f g : ℕ → Bool) → ((k : ℕ) → k < n → f k ≡ g k) → first n f ≡ first n g
+first-same : (n : ℕ) (f g : ℕ → Bool) → ((k : ℕ) → k < n → f k ≡ g k) → first n f ≡ first n g
 first-same n f g same = elim (decLt (first n g) n) [
   | yes l ↦
       sym (first-is l (λ k m. same k (omega arith) ∙ first-before n g k m) (same (first n g) l ∙ first-passes n g l))
@@ -68,6 +67,11 @@ pub try-free : (r : Round) (state holders : List ℕ) (i : ℕ) {k n : ℕ} → 
     → ltb k n ≡ mayTry r state holders i
 unfolding mayTry
 try-free r state holders i e ek en = rw (eq-eqb (getD holders i 0) 0 e, ek, en)
+
+-- the first who may try is found
+pub first-found : (r : Round) (state holders : List ℕ) {i : ℕ} {found : Bool} → i < candidateCount r → ((k : ℕ) → k < i → mayTry r state holders k ≡ false)
+    → found ≡ mayTry r state holders i → found ≡ true → i ≡ first (candidateCount r) (mayTry r state holders)
+first-found r state holders l none e t = first-is l none (sym e ∙ t)
 
 -- what is tried, the tables of holders and steps, and how many offers were made
 pub record Going (r : Round) (state holders steps : List ℕ) (count : ℕ) : Type 0 where

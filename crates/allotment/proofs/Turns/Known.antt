@@ -8,10 +8,8 @@ use Rattle.round.specs.declared.entry.Entry.{Entry}
 use Rattle.round.specs.declared.head.Head.{Head as CodeHead}
 use Rattle.round.specs.Records.{Head, headOf}
 use Rattle.round.specs.Reading.{roundOf}
-use Rattle.round.specs.Refusal.{passes, verdict}
 use Rattle.round.specs.Places.{candidateAt, instituteAt, entryAt, meritAt}
 use Rattle.round.specs.Sound.{Sound, SoundInstitute}
-use Rattle.round.specs.Read.{InRange}
 use Rattle.round.specs.Outcome.{CandidateStarts}
 use Rattle.round.specs.Access.{CandidateKnown, MeritKnown, InstituteKnown}
 use Rattle.round.proofs.Sound.{length-candidates, length-institutes, sound}

@@ -1,6 +1,6 @@
 -- The seats after a turn: the institute that got the offer gives those who take part their step there, everybody else keeps the seat.
 use mathlib.Core.Path.{_≡_, refl, sym, _∙_, ap}
-use mathlib.Core.Bool.{Bool, true, false, cond, not, _&&_, _||_}
+use mathlib.Core.Bool.{Bool, true, false, cond, _&&_, _||_}
 use mathlib.Core.Logic.{_≢_, _⊎_, inl, inr}
 use mathlib.Core.List.{List}
 use Prim.Native.Nat.{ℕ, suc, _-_, _≤_, _<_}
@@ -8,7 +8,7 @@ use native.Mathlib.Omega.{arith}
 use native.Mathlib.Decide.{decLt, ℕ-discrete}
 use lib.Dec.{eqb, ltb}
 use lib.ListN.{length, getD, length-map, List·getD-eq-default}
-use borrow.Author.Tests.{lt-ltb, le-ltb, eqb-true, eqb-false, eq-eqb, ne-eqb, ltb-true, not-true}
+use borrow.Author.Tests.{lt-ltb, eqb-true, eqb-false, eq-eqb, ne-eqb, ltb-true, not-true}
 use Rattle.round.specs.declared.entry.Category.{Category}
 use Rattle.round.specs.Category.{codeOf}
 use Rattle.round.specs.Round.{Round}
@@ -16,14 +16,14 @@ use Rattle.round.specs.Places.{instituteAt}
 use Rattle.round.specs.Sound.{Sound}
 use Rattle.round.proofs.Words.{and-fst, and-snd}
 use Rattle.choice.specs.Choice.{choose}
-use Rattle.choice.proofs.Chosen.{takenUnder, under-some, choose-length, choose-offered, choose-number}
+use Rattle.choice.proofs.Chosen.{under-some, choose-length, choose-offered, choose-number}
 use Rattle.allotment.specs.Rows.{rowAt, sameCategory, categoryAt}
-use Rattle.allotment.specs.Offers.{OfferSet, candidateOn, placeOn, stepsOn, stepFor}
+use Rattle.allotment.specs.Offers.{OfferSet, placeOn, stepsOn, stepFor}
 use Rattle.allotment.specs.Process.{Seat, noSeat, isNone, candidateCount, instituteCount, madeTo, seatsAfter, mayOffer}
 use Rattle.allotment.specs.Truthful.{isStep}
 use Rattle.allotment.specs.Stable.{given}
 use Rattle.allotment.specs.Held.{HeldIn}
-use Rattle.allotment.specs.Turns.{stepOffer, offerOf, offersBy, holderBy, takesPart, Scattered, ChosenAnew}
+use Rattle.allotment.specs.Turns.{stepOffer, offerOf, offersBy, holderBy, takesPart, ChosenAnew}
 use Rattle.allotment.proofs.Market.Tests.{clash}
 use Rattle.allotment.proofs.Market.Update.{split-at}
 use Rattle.allotment.proofs.Rounds.Places.{meritLength, candidate-at}
@@ -31,7 +31,7 @@ use Rattle.allotment.proofs.Rounds.Completed.{marksOn, atPlaces}
 use Rattle.allotment.proofs.Rounds.Agreed.{step-number}
 use Rattle.allotment.proofs.Rounds.Running.{Running}
 use Rattle.allotment.proofs.Rounds.Seats.{stepIn, step-held, seat-held, Seated, Unseated, seat-of}
-use Rattle.allotment.proofs.Rounds.Process.{MayTurn, advanced, turn-running, may-offer}
+use Rattle.allotment.proofs.Rounds.Process.{advanced, turn-running, may-offer}
 use Rattle.allotment.proofs.Rounds.Standing.{is-step}
 use Rattle.allotment.proofs.Rounds.Turn.{newEntry, heldAndNew, turn-elsewhere, turn-here}
 use Rattle.allotment.proofs.Rounds.Bounds.{seats-length}

@@ -1,20 +1,18 @@
 -- Seating those who have an offer as was chosen, one place of the merit list after the other.
 use mathlib.Core.Path.{_≡_, refl, sym, _∙_, ap, subst}
-use mathlib.Core.Bool.{Bool, true, false, cond, not, _&&_}
+use mathlib.Core.Bool.{true, false, cond}
 use mathlib.Core.Logic.{_≢_}
 use mathlib.Core.List.{List}
 use Prim.Native.Nat.{ℕ, suc, _+_, _≤_, _<_}
 use native.Mathlib.Omega.{arith}
 use native.Mathlib.Decide.{decLt, ℕ-discrete}
-use lib.Dec.{eqb, ltb}
 use lib.ListN.{length, getD, set, length-set}
 use lib.Seq.{getD-set-same, getD-set-other}
-use borrow.Author.Tests.{lt-ltb, le-ltb, eq-eqb, ne-eqb}
+use borrow.Author.Tests.{lt-ltb, le-ltb, ne-eqb}
 use Rattle.round.specs.Round.{Round}
 use Rattle.round.specs.Places.{instituteAt}
 use Rattle.round.specs.Sound.{SoundInstitute}
 use Rattle.allotment.specs.Offers.{candidateOn, placeOn}
-use Rattle.allotment.specs.Process.{candidateCount}
 use Rattle.allotment.specs.Turns.{holderBy, takesPart, Scattered}
 use Rattle.allotment.proofs.Rounds.Places.{meritLength, candidate-at, place-of}
 

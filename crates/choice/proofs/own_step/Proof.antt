@@ -36,10 +36,12 @@ slice-aggregate-reserved-of c = sym (length-take-le (c .before .before .before .
 reserved-of-requires : tie.Need-reserved-of-requires
 reserved-of-requires c κs =
     let p = c .before .before .before .before .before .before .before .before .pre in
-    (p .0, code-below c, p .1, length-take-le (c .before .before .before .before .before .before .before .before .args .types) (c .before .none-reserved .result) (omega (arith, sized 8 (c .before .none-reserved .ensures), p .0)))
+    (record { types-most = p .0; long = p .1 }, (omega (arith, code-below c), length-take-le (c .before .before .before .before .before .before .before .before .args .types) (c .before .none-reserved .result) (omega (arith, sized 8 (c .before .none-reserved .ensures), p .0))))
 
-positions-of-requires : tie.Need-positions-of-requires
-positions-of-requires c κs = (c .before .before .before .before .before .before .before .before .before .before .pre .0, code-below (c .before .before), c .before .before .before .before .before .before .before .before .before .before .pre .1)
+positions-in-requires : tie.Need-positions-in-requires
+positions-in-requires c κs =
+    let p = c .before .before .before .before .before .before .before .before .before .before .pre in
+    (record { types-most = p .0; long = p .1 }, omega (arith, code-below (c .before .before)))
 
 array-share-prefix-reserved : tie.Need-array-share-prefix-reserved
 array-share-prefix-reserved c =
@@ -77,7 +79,7 @@ returns c =
     own-done (a .types) (a .body .now) (codeOf (a .category)) (a .marks .now) (a .offers .now) (a .steps .now) (c .before .before .step .last .1 .1 .1 .1 .1 .1 .0)
     (reserved-back (c .before .before .before .before) ∙ ap (λ (k : ℕ). tabulate (a .types) (reservedIn (a .types) (a .body .now) k)) code)
     (add-one (c .before .before .before .before .before .before .before .before .before .before .before .code-of .result) ∙ ap suc (c .before .before .before .before .before .before .before .before .before .before .before .code-of .ensures))
-    (c .before .before .before .before .before .positions-of .ensures ∙ ap (λ (k : ℕ). positionsIn (a .types) (a .body .now) k) code)
+    (c .before .before .before .before .before .positions-in .ensures .0 ∙ ap (λ (k : ℕ). positionsIn (a .types) (a .body .now) k) code)
     (c .before .before .step .ensures)
 
 pub own-step-spec : {M : Type 1} → statement M
@@ -90,7 +92,7 @@ own-step-spec =
     array-borrow-prefix-reserved
     slice-aggregate-reserved-of
     reserved-of-requires
-    positions-of-requires
+    positions-in-requires
     array-share-prefix-reserved
     slice-aggregate-step
     add-step

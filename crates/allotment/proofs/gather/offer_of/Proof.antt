@@ -1,8 +1,5 @@
 -- `allotment::gather::offer_of` meets its contract. Assumes nothing.
-use mathlib.Core.Path.{_≡_, refl, sym, _∙_}
-use borrow.Author.Tests.{eq-eqb, ne-eqb}
 use borrow.Author.Needs.{needs}
-use Rattle.allotment.specs.Turns.{offerOf}
 use Rattle.allotment.proofs.Turns.Gathers.{offer-new, offer-away, offer-there}
 use Rattle.allotment.proofs.gather.offer_of.Statement.{statement}
 use Rattle.allotment.proofs.gather.offer_of.Tie as tie

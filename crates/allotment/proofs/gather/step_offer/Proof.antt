@@ -1,5 +1,4 @@
 -- `allotment::gather::step_offer` meets its contract. Assumes nothing.
-use mathlib.Core.Path.{_≡_, refl}
 use borrow.Author.Tests.{eq-eqb, ne-eqb}
 use Rattle.allotment.proofs.gather.step_offer.Statement.{statement}
 use Rattle.allotment.proofs.gather.step_offer.Tie as tie

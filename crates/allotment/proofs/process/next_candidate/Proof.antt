@@ -3,14 +3,12 @@ use Prim.Native.Nat.{ℕ, _-_, _≤_, _<_}
 use mathlib.Core.Path.{_≡_, sym, _∙_}
 use mathlib.Core.Bool.{false}
 use native.Mathlib.Omega.{arith}
-use lib.ListN.{length}
 use denote.Ref.{now}
 use borrow.Author.Count.{below-more}
 use Rattle.round.specs.Reading.{roundOf}
 use Rattle.round.proofs.Sound.{length-candidates}
-use Rattle.allotment.specs.Process.{candidateCount}
 use Rattle.allotment.specs.Turns.{mayTry}
-use Rattle.allotment.proofs.Turns.Going.{first-is, first-nobody}
+use Rattle.allotment.proofs.Turns.Going.{first-found, first-nobody}
 use borrow.Author.Needs.{needs}
 use Rattle.allotment.proofs.process.next_candidate.Statement.{statement}
 use Rattle.allotment.proofs.process.next_candidate.Tie as tie
@@ -33,11 +31,13 @@ may-try-requires c κs =
 
 returns : tie.Need-returns Inv-loop μ-loop
 returns c =
-    let pre = c .before .before .before .before .before .before .before .before .pre in
-    first-is {n = candidateCount (roundOf (now (c .before .before .before .before .before .before .before .before .args .file)))}
-    (omega (arith, c .before .before .loop-test .taken, pre .1 .1 .0, length-candidates (now (c .before .before .before .before .before .before .before .before .args .file))))
+    let a = c .before .before .before .before .before .before .before .before .args in
+    let few = c .before .before .before .before .before .before .before .before .pre .1 .1 .0 in
+    first-found (roundOf (now (a .file))) (now (a .tried)) (now (a .holders))
+    (omega (arith, c .before .before .loop-test .taken, few, length-candidates (now (a .file))))
     (c .before .before .before .loop .inv .1)
-    (sym (c .before .may-try .ensures) ∙ c .if1 .taken)
+    (c .before .may-try .ensures)
+    (c .if1 .taken)
 
 add-i : tie.Need-add-i Inv-loop μ-loop
 add-i c = search needs

@@ -1,11 +1,10 @@
 -- `allotment::process::run_offers` meets its contract: the process starts from tables of zeros. Assumes nothing.
 use Prim.Native.Nat.{ℕ, _≤_}
-use mathlib.Core.Path.{_≡_, sym, _∙_, ap}
+use mathlib.Core.Path.{sym, _∙_, ap}
 use mathlib.Core.List.{List}
 use native.Mathlib.Omega.{arith}
-use lib.ListN.{length, take, replicate}
+use lib.ListN.{take, replicate}
 use lib.Seq.{length-take-le}
-use denote.Ref.{now}
 use Rattle.round.specs.declared.head.Head.{Head}
 use Rattle.allotment.specs.Held.{AtHand}
 use Rattle.allotment.proofs.Turns.Known.{round-sound, candidates-many, sized, front-zeros}

@@ -1,8 +1,8 @@
 -- `allotment::process::take_turns` meets its contract: the process goes on while an entry is untried. Assumes nothing.
-use Prim.Native.Nat.{ℕ, zero, _-_, _<_}
-use mathlib.Core.Path.{_≡_, sym, _∙_, ap}
+use Prim.Native.Nat.{zero, _-_, _<_}
+use mathlib.Core.Path.{sym, _∙_, ap}
 use native.Mathlib.Omega.{arith}
-use lib.ListN.{length, replicate}
+use lib.ListN.{replicate}
 use denote.Ref.{now}
 use Rattle.round.specs.Reading.{roundOf}
 use Rattle.round.proofs.Sound.{length-candidates}
@@ -10,7 +10,6 @@ use Rattle.allotment.specs.Process.{candidateCount, entryTotal}
 use Rattle.allotment.proofs.Turns.Known.{round-sound, candidates-many, sized}
 use Rattle.allotment.proofs.Turns.Choosing.{round-coded}
 use Rattle.allotment.proofs.Turns.Going.{Going, going-start, going-more, going-few, going-next, going-done, going-tried, going-holders, going-steps, entries-few}
-use borrow.Author.Needs.{needs}
 use Rattle.allotment.proofs.process.take_turns.Statement.{statement}
 use Rattle.allotment.proofs.process.take_turns.Tie as tie
 

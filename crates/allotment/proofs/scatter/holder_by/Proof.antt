@@ -1,5 +1,4 @@
 -- `allotment::scatter::holder_by` meets its contract. Assumes nothing.
-use mathlib.Core.Path.{_≡_, refl}
 use borrow.Author.Tests.{eq-eqb, ne-eqb}
 use Rattle.allotment.proofs.scatter.holder_by.Statement.{statement}
 use Rattle.allotment.proofs.scatter.holder_by.Tie as tie

@@ -1,10 +1,9 @@
 -- `allotment::scatter::scatter` meets its contract: the candidates at the places below p are seated. Assumes nothing.
-use Prim.Native.Nat.{ℕ, suc, _-_, _≤_}
-use mathlib.Core.Path.{_≡_, refl, sym, _∙_, ap}
+use Prim.Native.Nat.{_-_, _≤_}
+use mathlib.Core.Path.{refl, _∙_}
 use mathlib.Core.Logic.{⊎-elim}
 use native.Mathlib.Omega.{arith}
 use native.Mathlib.Numerals.{add-one}
-use lib.ListN.{length}
 use denote.Ref.{now}
 use Rattle.round.specs.Reading.{roundOf}
 use Rattle.allotment.proofs.Turns.Known.{institute-sound, institute-few, number-least, number-most, number-on}

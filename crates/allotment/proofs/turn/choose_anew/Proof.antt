@@ -5,7 +5,6 @@ use mathlib.Core.List.{List}
 use native.Mathlib.Omega.{arith}
 use lib.ListN.{length, take, replicate}
 use lib.Seq.{length-take-le}
-use denote.Ref.{now}
 use Rattle.round.specs.Reading.{roundOf}
 use Rattle.round.specs.Places.{instituteAt}
 use Rattle.round.specs.Access.{MeritKnown}

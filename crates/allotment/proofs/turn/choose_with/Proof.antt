@@ -1,8 +1,6 @@
 -- `allotment::turn::choose_with` meets its contract: what is gathered is chosen from, and the choice is put into the tables. Assumes nothing.
-use Prim.Native.Nat.{_≤_}
-use mathlib.Core.Path.{_≡_, sym, _∙_}
+use mathlib.Core.Path.{sym, _∙_}
 use native.Mathlib.Omega.{arith}
-use lib.ListN.{length}
 use denote.Ref.{now}
 use Rattle.allotment.proofs.Turns.Known.{candidates-are, knows-merit, knows-institute, merit-few}
 use Rattle.allotment.proofs.Turns.Choosing.{all-chosen}

@@ -1,8 +1,6 @@
 -- `allotment::turn::turn` meets its contract: the entry that is read is offered. Assumes nothing.
-use Prim.Native.Nat.{ℕ, _+_, _≤_, _<_}
-use mathlib.Core.Path.{_≡_, refl, sym, _∙_, ap}
+use mathlib.Core.Path.{refl}
 use native.Mathlib.Omega.{arith}
-use lib.ListN.{length, getD}
 use denote.Ref.{now}
 use Rattle.round.specs.Reading.{roundOf}
 use Rattle.allotment.proofs.Rounds.Numbered.{code-small}

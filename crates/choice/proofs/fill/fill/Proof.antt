@@ -2,7 +2,7 @@
 use Rattle.round.specs.Lists.{count}
 use Rattle.choice.specs.Offers.{considersBy}
 use Rattle.choice.specs.Fill.{restAt}
-use Prim.Native.Nat.{ℕ, _+_, _-_, _≤_, _<_}
+use Prim.Native.Nat.{ℕ, _+_, _-_, _≤_, _<_, min}
 use mathlib.Core.Path.{_≡_, refl, sym, ap, _∙_}
 use mathlib.Core.Logic.{⊎-elim}
 use lib.ListN.{length}
@@ -14,10 +14,10 @@ use Rattle.choice.proofs.fill.fill.Statement.{statement}
 use Rattle.choice.proofs.fill.fill.Tie as tie
 
 abbrev Inv-loop : tie.InvT-loop
-Inv-loop free number offers wanted placed steps₀ vacant₀ p₀ p-end steps vacant p = (p ≤ length steps₀) × (p-end ≡ length steps₀) × Filled number wanted free offers placed steps₀ steps vacant p
+Inv-loop free number offers wanted placed steps₀ filled₀ p₀ p-end steps filled p = (p ≤ length steps₀) × (p-end ≡ length steps₀) × Filled number wanted free offers placed steps₀ steps filled p
 
 abbrev μ-loop : tie.MeasureT-loop
-μ-loop free number offers wanted placed steps₀ vacant₀ p₀ p-end steps vacant p = length steps₀ - p
+μ-loop free number offers wanted placed steps₀ filled₀ p₀ p-end steps filled p = length steps₀ - p
 
 loop-holds : tie.Need-loop-holds Inv-loop μ-loop
 loop-holds c = (omega arith, refl, none-filled _ _ _ _ _ _)
@@ -37,8 +37,8 @@ considers-requires c κs =
 slice-write-steps-2 : tie.Need-slice-write-steps-2 Inv-loop μ-loop
 slice-write-steps-2 c = search needs
 
-sub-vacant : tie.Need-sub-vacant Inv-loop μ-loop
-sub-vacant c = search needs
+add-filled : tie.Need-add-filled Inv-loop μ-loop
+add-filled c = search needs
 
 add-p : tie.Need-add-p Inv-loop μ-loop
 add-p c = search needs
@@ -53,33 +53,33 @@ loop-again c =
     let inside : k .p < length (a .steps .now) = c .before .before .loop-test .taken in
     let f = k .inv .2 in
     let same : considersBy (a .offers .now) (k .steps) (a .wanted) (k .p) ≡ considersBy (a .offers .now) (a .steps .now) (a .wanted) (k .p) =
-    considered (a .number) (a .wanted) (a .free) (a .offers .now) (a .placed .now) (a .steps .now) (k .steps) (k .vacant) (k .p) inside f in
+    considered (a .number) (a .wanted) (a .free) (a .offers .now) (a .placed .now) (a .steps .now) (k .steps) (k .filled) (k .p) inside f in
     ⊎-elim
     (λ w. (
       omega arith,
       refl,
       filled-by _ _ _ _ _ _ (k .p + 1) (w .1) (w .2)
-          (by-type (a .number) (a .wanted) (a .free) (a .offers .now) (a .placed .now) (a .steps .now) (k .steps) (k .vacant) (k .p) inside f (omega (arith, w .0 .taken))),
+          (by-type (a .number) (a .wanted) (a .free) (a .offers .now) (a .placed .now) (a .steps .now) (k .steps) (k .filled) (k .p) inside f (omega (arith, w .0 .taken))),
     ))
     (⊎-elim
     (λ w. (
       omega arith,
       refl,
       filled-by _ _ _ _ _ _ (k .p + 1) (w .5) (w .6)
-          (by-merit (a .number) (a .wanted) (a .free) (a .offers .now) (a .placed .now) (a .steps .now) (k .steps) (k .vacant) (k .p) inside f (omega (arith, w .0 .left)) (sym same ∙ sym (w .3 .ensures) ∙ w .4 .taken) (w .1 .taken)),
+          (by-merit (a .number) (a .wanted) (a .free) (a .offers .now) (a .placed .now) (a .steps .now) (k .steps) (k .filled) (k .p) inside f (omega (arith, w .0 .left)) (sym same ∙ sym (w .3 .ensures) ∙ w .4 .taken) (w .1 .taken)),
     ))
     (⊎-elim
     (λ w. (
       omega arith,
       refl,
       filled-by _ _ _ _ _ _ (k .p + 1) (w .5) (w .6)
-          (left-out (a .number) (a .wanted) (a .free) (a .offers .now) (a .placed .now) (a .steps .now) (k .steps) (k .vacant) (k .p) inside f (omega (arith, w .0 .left)) (sym same ∙ sym (w .3 .ensures) ∙ w .4 .left)),
+          (left-out (a .number) (a .wanted) (a .free) (a .offers .now) (a .placed .now) (a .steps .now) (k .steps) (k .filled) (k .p) inside f (omega (arith, w .0 .left)) (sym same ∙ sym (w .3 .ensures) ∙ w .4 .left)),
     ))
     (λ w. (
       omega arith,
       refl,
       filled-by _ _ _ _ _ _ (k .p + 1) (w .2) (w .3)
-          (no-room (a .number) (a .wanted) (a .free) (a .offers .now) (a .placed .now) (a .steps .now) (k .steps) (k .vacant) (k .p) inside f (omega (arith, w .0 .left)) (omega (arith, w .1 .left))),
+          (no-room (a .number) (a .wanted) (a .free) (a .offers .now) (a .placed .now) (a .steps .now) (k .steps) (k .filled) (k .p) inside f (omega (arith, w .0 .left)) (omega (arith, w .1 .left))),
     ))))
     (c .if1 .came)
 
@@ -92,7 +92,7 @@ returns c =
     let a = c .before .before .before .before .before .args in
     let end : k .p ≡ length (a .steps .now) = omega arith in (
       tabulated (a .steps .now) (k .steps) _ (k .p) (k .inv .2 .written) (omega arith),
-      k .inv .2 .vacancy ∙ ap (λ (n : ℕ). a .free - count n (restAt (a .placed .now) (considersBy (a .offers .now) (a .steps .now) (a .wanted)))) end,
+      k .inv .2 .number-filled ∙ ap (λ (n : ℕ). min (a .free) (count n (restAt (a .placed .now) (considersBy (a .offers .now) (a .steps .now) (a .wanted))))) end,
     )
 
 pub fill-spec : {M : Type 1} → statement M
@@ -106,7 +106,7 @@ fill-spec =
     slice-write-steps
     considers-requires
     slice-write-steps-2
-    sub-vacant
+    add-filled
     add-p
     loop-less
     loop-again

@@ -9,11 +9,10 @@ use native.Mathlib.Numerals.{add-one}
 use lib.ListN.{length, getD, set, length-set}
 use borrow.Author.Needs.{needs}
 use native.Mathlib.Omega.{arith}
-use Rattle.choice.specs.Search.{unvisited}
 use Rattle.choice.specs.Use.{holds, Placing}
 use Rattle.choice.specs.declared.placing.Found.{Found}
 use Rattle.choice.specs.declared.placing.Found.the-variants.{At, Nothing}
-use Rattle.choice.proofs.Visits.{Tried, Asked, Ended, ended-by, Cleared, tried-test, skip, done, ask, pass, fail, clear, fewer, cleared, finish, settle}
+use Rattle.choice.proofs.Visits.{unvisited, Tried, Asked, Ended, ended-by, Cleared, tried-test, skip, done, ask, pass, fail, clear, fewer, cleared, finish, settle}
 use borrow.Fn.Kinds.{In}
 use borrow.Fn.PlainCycle.{Measures, is, falls, and}
 use Rattle.choice.proofs.placing.place.Reads as place
@@ -21,7 +20,7 @@ use Rattle.choice.proofs.placing.place.Kinds as place-kinds
 use Rattle.choice.proofs.placing.+place.Lts-place as place-lts
 use Rattle.choice.proofs.placing.placed_at.Reads as placed-at-reads
 use Rattle.choice.proofs.placing.to_try.Reads as to-try-reads
-use Rattle.choice.proofs.placing.wide.Reads as wide-reads
+use Rattle.round.proofs.word.wide.Reads as wide-reads
 use Rattle.choice.proofs.placing.+place.{statement}
 use Rattle.choice.proofs.placing.+place.Tie.{close}
 
@@ -72,9 +71,10 @@ placing t k = subst (λ (l : List ℕ). Placing (k .before .before .before .befo
 to-try : (t : ℕ) (o : place-lts.Else2 (told t) (place-at t) place.Post place-Inv-loop2 place-μ-loop2 place-Inv-loop place-μ-loop place-Inv-search place-μ-search) → (holds (getD (o .before .before .before .before .before .before .before .before .before .before .before .before .before .before .before .args .marks .now) (o .before .before .before .before .before .before .before .before .before .before .before .before .before .before .before .args .c) 0) (o .before .before .before .before .before .before .before .before .before .loop .t) ≡ true) × (getD (o .before .before .before .before .before .before .before .before .before .loop .visited) (o .before .before .before .before .before .before .before .before .before .loop .t) 0 ≡ 0)
 to-try t o = tried-test (getD (o .before .before .before .before .before .before .before .before .before .before .before .before .before .before .before .args .marks .now) (o .before .before .before .before .before .before .before .before .before .before .before .before .before .before .before .args .c) 0) (o .before .before .before .before .before .before .before .before .before .loop .t) (getD (o .before .before .before .before .before .before .before .before .before .loop .visited) (o .before .before .before .before .before .before .before .before .before .loop .t) 0) (o .before .before .before .before .before .to-try .ensures) (o .before .before .before .before .if1 .taken)
 
--- how the search ends, at every way out of the loops
+-- how the search ends, at every way out of the loops, as a search that starts from the places and the visited types of the entry
 ended : (t : ℕ) (c : place-lts.Left-loop (told t) (place-at t) place.Post place-Inv-loop2 place-μ-loop2 place-Inv-loop place-μ-loop place-Inv-search place-μ-search)
     → Ended (c .before .before .before .before .before .before .before .args .reserved .now) (c .before .before .before .before .before .before .before .args .marks .now) (c .before .before .before .before .before .before .before .args .visited .now) (c .loop-test .visited) (c .before .before .before .before .before .before .before .args .placed .now) (c .loop-test .placed) (c .before .before .before .before .before .before .before .args .c) (c .loop-test .found)
+    × (length (c .loop-test .placed) ≡ length (c .before .before .before .before .before .before .before .args .placed .now)) × (length (c .loop-test .visited) ≡ length (c .before .before .before .before .before .before .before .args .visited .now))
 ended t c =
     let k = c .before in
     let start = k .before .before .before .before .before .before in
@@ -82,29 +82,41 @@ ended t c =
     let marks = start .args .marks .now in
     let entry : start .args .visited .now ≡ k .before .search .visited = sym (k .before .search .inv .1) in
     let places : start .args .placed .now ≡ k .loop .placed = sym (as-placed t k) in
+    let visits : length (k .loop .visited) ≡ length (start .args .visited .now) = k .loop .inv .3 ∙ ap length (k .before .search .inv .1) in
+    let marked : length (set (k .loop .visited) (k .loop .t) 1) ≡ length (start .args .visited .now) = length-set (k .loop .visited) (k .loop .t) 1 ∙ visits in
     ⊎-elim
     (λ w.
-    let test = tried-test (getD marks (start .args .c) 0) (k .loop .t) (getD (k .loop .visited) (k .loop .t) 0) (w .3 .ensures) (w .4 .taken) in
-    ended-by reserved marks (start .args .c) entry refl places (w .9) (w .11)
-    (clear reserved marks (k .loop .placed) (k .before .search .visited) (k .loop .visited) (start .args .c) (k .loop .t) (k .loop .inv .4)
-    (omega (arith, sized t k, start .pre .1 .few, w .0 .taken)) (w .0 .taken) (test .0) (test .1) (placing t k) (omega (arith, w .6 .ensures, w .8 .taken))))
+    let test = tried-test (getD marks (start .args .c) 0) (k .loop .t) (getD (k .loop .visited) (k .loop .t) 0) (w .3 .ensures) (w .4 .taken) in (
+      ended-by reserved marks (start .args .c) entry refl places (w .9) (w .11)
+          (clear reserved marks (k .loop .placed) (k .before .search .visited) (k .loop .visited) (start .args .c) (k .loop .t) (k .loop .inv .4)
+          (omega (arith, sized t k, start .pre .1 .few, w .0 .taken)) (w .0 .taken) (test .0) (test .1) (placing t k) (omega (arith, w .6 .ensures, w .8 .taken))),
+      ap length (w .9 ∙ as-placed t k),
+      ap length (w .10) ∙ marked,
+    ))
     (⊎-elim
     (λ w.
     let test = tried-test (getD marks (start .args .c) 0) (k .loop .t) (getD (k .loop .visited) (k .loop .t) 0) (w .3 .ensures) (w .4 .taken) in
-    let at : getD (w .9 .placed) (w .9 .h) 0 ≡ suc (k .loop .t) = omega (arith, w .12 .ensures, w .13 .taken) in
-    ended-by reserved marks (start .args .c) entry refl places (w .22) (w .24)
-    (cleared reserved marks (k .loop .placed) (k .before .search .visited) (k .loop .visited) (start .args .c) (k .loop .t) (k .loop .inv .4)
-    (omega (arith, sized t k, start .pre .1 .few, w .0 .taken)) (w .0 .taken) (test .0) (test .1) (w .9 .visited) (w .9 .placed) (w .16 .last .1 .1 .0) (w .9 .h)
-    (w .9 .inv .3) (w .10 .taken) (placing t k) (w .9 .inv .5) at (w .16 .ensures .found (w .21 .taken))))
-    (λ w.
-    ended-by reserved marks (start .args .c) entry (w .2) places (w .1) (w .3)
-    (done reserved marks (k .loop .placed) (k .before .search .visited) (k .loop .visited) (start .args .c) (k .loop .t) (w .0 .left) (k .loop .inv .4))))
+    let at : getD (w .9 .placed) (w .9 .h) 0 ≡ suc (k .loop .t) = omega (arith, w .12 .ensures, w .13 .taken) in (
+      ended-by reserved marks (start .args .c) entry refl places (w .22) (w .24)
+          (cleared reserved marks (k .loop .placed) (k .before .search .visited) (k .loop .visited) (start .args .c) (k .loop .t) (k .loop .inv .4)
+          (omega (arith, sized t k, start .pre .1 .few, w .0 .taken)) (w .0 .taken) (test .0) (test .1) (w .9 .visited) (w .9 .h) (w .9 .inv .5)
+          (w .9 .placed) (w .16 .last .1 .1 .0) (w .9 .inv .3) (w .10 .taken) (placing t k) at (w .16 .ensures .found (w .21 .taken))),
+      ap length (w .22) ∙ w .16 .kept .1 .1 .0 ∙ ap length (w .9 .inv .3 ∙ as-placed t k),
+      ap length (w .23) ∙ w .16 .kept .1 .1 .1 .0 ∙ w .9 .inv .4 ∙ marked,
+    ))
+    (λ w. (
+      ended-by reserved marks (start .args .c) entry (w .2) places (w .1) (w .3)
+          (done reserved marks (k .loop .placed) (k .before .search .visited) (k .loop .visited) (start .args .c) (k .loop .t) (w .0 .left) (k .loop .inv .4)),
+      ap length (w .1 ∙ as-placed t k),
+      ap length (w .2) ∙ visits,
+    )))
     (c .loop-test .came)
 
+-- .. with the type that was found, or nothing
 as-ended : (t : ℕ) (c : place-lts.Left-loop (told t) (place-at t) place.Post place-Inv-loop2 place-μ-loop2 place-Inv-loop place-μ-loop place-Inv-search place-μ-search) (f : Found) → c .loop-test .found ≡ f
     → Ended (c .before .before .before .before .before .before .before .args .reserved .now) (c .before .before .before .before .before .before .before .args .marks .now) (c .before .before .before .before .before .before .before .args .visited .now) (c .loop-test .visited) (c .before .before .before .before .before .before .before .args .placed .now) (c .loop-test .placed) (c .before .before .before .before .before .before .before .args .c) f
 as-ended t c f e =
-    subst (Ended (c .before .before .before .before .before .before .before .args .reserved .now) (c .before .before .before .before .before .before .before .args .marks .now) (c .before .before .before .before .before .before .before .args .visited .now) (c .loop-test .visited) (c .before .before .before .before .before .before .before .args .placed .now) (c .loop-test .placed) (c .before .before .before .before .before .before .before .args .c)) e (ended t c)
+    subst (Ended (c .before .before .before .before .before .before .before .args .reserved .now) (c .before .before .before .before .before .before .before .args .marks .now) (c .before .before .before .before .before .before .before .args .visited .now) (c .loop-test .visited) (c .before .before .before .before .before .before .before .args .placed .now) (c .loop-test .placed) (c .before .before .before .before .before .before .before .args .c)) e (ended t c .0)
 
 cleared-at : (t : ℕ) (c : place-lts.After-known-told (told t) (place-at t) place.Post place-Inv-loop2 place-μ-loop2 place-Inv-loop place-μ-loop place-Inv-search place-μ-search)
     → Cleared (c .before .before .before .before .before .before .before .before .before .before .args .reserved .now) (c .before .before .before .before .before .before .before .before .before .before .args .marks .now) (c .before .before .before .before .before .before .before .before .before .before .args .visited .now) (c .before .before .before .before .before .before .before .before .before .before .args .placed .now) (c .before .before .before .loop-test .placed) (c .before .before .before .before .before .before .before .before .before .before .args .c) (c .before .found .given .0 .0)
@@ -112,21 +124,6 @@ cleared-at t c = as-ended t (c .before .before .before) (At (c .before .found .g
 
 never : true ≡ false → ⊥
 never e = let z : _≡_ {A = ℕ} 0 1 = cc in omega arith
-
-lengths : (t : ℕ) (c : place-lts.Left-loop (told t) (place-at t) place.Post place-Inv-loop2 place-μ-loop2 place-Inv-loop place-μ-loop place-Inv-search place-μ-search)
-    → (length (c .loop-test .placed) ≡ length (c .before .before .before .before .before .before .before .args .placed .now)) × (length (c .loop-test .visited) ≡ length (c .before .before .before .before .before .before .before .args .visited .now))
-lengths t c =
-    let k = c .before in
-    let visits : length (k .loop .visited) ≡ length (k .before .before .before .before .before .before .args .visited .now) = k .loop .inv .3 ∙ ap length (k .before .search .inv .1) in
-    ⊎-elim
-    (λ w. (ap length (w .9 ∙ as-placed t k), ap length (w .10) ∙ length-set (k .loop .visited) (k .loop .t) 1 ∙ visits))
-    (⊎-elim
-    (λ w. (
-      ap length (w .22) ∙ w .16 .kept .1 .1 .0 ∙ ap length (w .9 .inv .3 ∙ as-placed t k),
-      ap length (w .23) ∙ w .16 .kept .1 .1 .1 .0 ∙ w .9 .inv .4 ∙ length-set (k .loop .visited) (k .loop .t) 1 ∙ visits,
-    ))
-    (λ w. (ap length (w .1 ∙ as-placed t k), ap length (w .2) ∙ visits)))
-    (c .loop-test .came)
 
 place-search-holds : (t : ℕ) → place-lts.Need-search-holds (told t) (place-at t) place.Post place-Inv-loop2 place-μ-loop2 place-Inv-loop place-μ-loop place-Inv-search place-μ-search
 place-search-holds t c = search needs
@@ -180,7 +177,7 @@ place-place-requires t c κs =
     let len : length (i .loop2 .visited) ≡ length (k .loop .visited) = i .loop2 .inv .4 ∙ length-set (k .loop .visited) (k .loop .t) 1 in
     let less : unvisited (i .loop2 .visited) < unvisited (k .before .search .visited) =
     fewer (start .args .reserved .now) (start .args .marks .now) (k .loop .placed) (k .before .search .visited) (k .loop .visited) (start .args .c) (k .loop .t) (k .loop .inv .4)
-    (omega (arith, sized t k, start .pre .1 .few)) below (to-try t o .0) (to-try t o .1) (i .loop2 .visited) (i .loop2 .h) (sym (k .loop .inv .3)) len (i .loop2 .inv .5) in (
+    (omega (arith, sized t k, start .pre .1 .few)) below (to-try t o .0) (to-try t o .1) (i .loop2 .visited) (i .loop2 .h) (i .loop2 .inv .5) (sym (k .loop .inv .3)) len in (
       omega (arith, less, ap unvisited (k .before .search .inv .1), start .pre .0),
       record {
         few = start .pre .1 .few;
@@ -249,8 +246,8 @@ place-loop-again t c =
     let places : c .if1 .placed ≡ k .loop .placed = w .7 ∙ w .5 .inv .3 in
     let after : Next (k .loop .placed) (w .5 .visited) =
     finish reserved marks (k .loop .placed) visited₀ (k .loop .visited) (start .args .c) (k .loop .t) (k .loop .inv .4)
-    (omega (arith, sized t k, start .pre .1 .few)) next (test .0) (test .1) (w .5 .visited) (w .5 .h)
-    (omega (arith, w .2 .ensures, w .4 .left)) (w .6 .left) (w .5 .inv .5) in (
+    (omega (arith, sized t k, start .pre .1 .few)) next (test .0) (test .1) (w .5 .visited) (w .5 .h) (w .5 .inv .5)
+    (omega (arith, w .2 .ensures, w .4 .left)) (w .6 .left) in (
       omega arith,
       refl,
       places ∙ k .loop .inv .2,
@@ -275,10 +272,10 @@ place-enum-told : (t : ℕ) → place-lts.Need-enum-told (told t) (place-at t) p
 place-enum-told t c = search needs
 
 place-same-length : (t : ℕ) → place-lts.Need-same-length (told t) (place-at t) place.Post place-Inv-loop2 place-μ-loop2 place-Inv-loop place-μ-loop place-Inv-search place-μ-search
-place-same-length t c = lengths t (c .before .before) .0
+place-same-length t c = ended t (c .before .before) .1
 
 place-same-length-2 : (t : ℕ) → place-lts.Need-same-length-2 (told t) (place-at t) place.Post place-Inv-loop2 place-μ-loop2 place-Inv-loop place-μ-loop place-Inv-search place-μ-search
-place-same-length-2 t c = lengths t (c .before .before) .1
+place-same-length-2 t c = ended t (c .before .before) .2
 
 place-returns : (t : ℕ) → place-lts.Need-returns (told t) (place-at t) place.Post place-Inv-loop2 place-μ-loop2 place-Inv-loop place-μ-loop place-Inv-search place-μ-search
 place-returns t c = record { found = λ e. absurd (never (sym e)); stuck = λ e. as-ended t (c .before .before) Nothing (c .enum-told .given .1) }
@@ -290,13 +287,13 @@ place-cast-placed : (t : ℕ) → place-lts.Need-cast-placed (told t) (place-at 
 place-cast-placed t c = omega (arith, cleared-at t c .below, c .before .before .before .before .before .before .before .before .before .before .pre .1 .few)
 
 place-slice-write-placed : (t : ℕ) → place-lts.Need-slice-write-placed (told t) (place-at t) place.Post place-Inv-loop2 place-μ-loop2 place-Inv-loop place-μ-loop place-Inv-search place-μ-search
-place-slice-write-placed t c = omega (arith, lengths t (c .before .before .before) .0, c .before .before .before .before .before .before .before .before .before .before .pre .1 .within, c .before .before .before .before .before .before .before .before .before .before .pre .1 .placing .each)
+place-slice-write-placed t c = omega (arith, ended t (c .before .before .before) .1, c .before .before .before .before .before .before .before .before .before .before .pre .1 .within, c .before .before .before .before .before .before .before .before .before .before .pre .1 .placing .each)
 
 place-same-length-3 : (t : ℕ) → place-lts.Need-same-length-3 (told t) (place-at t) place.Post place-Inv-loop2 place-μ-loop2 place-Inv-loop place-μ-loop place-Inv-search place-μ-search
-place-same-length-3 t c = length-set (c .before .before .before .loop-test .placed) (c .before .before .before .before .before .before .before .before .before .before .args .c) _ ∙ lengths t (c .before .before .before) .0
+place-same-length-3 t c = length-set (c .before .before .before .loop-test .placed) (c .before .before .before .before .before .before .before .before .before .before .args .c) _ ∙ ended t (c .before .before .before) .1
 
 place-same-length-4 : (t : ℕ) → place-lts.Need-same-length-4 (told t) (place-at t) place.Post place-Inv-loop2 place-μ-loop2 place-Inv-loop place-μ-loop place-Inv-search place-μ-search
-place-same-length-4 t c = lengths t (c .before .before .before) .1
+place-same-length-4 t c = ended t (c .before .before .before) .2
 
 place-returns-2 : (t : ℕ) → place-lts.Need-returns-2 (told t) (place-at t) place.Post place-Inv-loop2 place-μ-loop2 place-Inv-loop place-μ-loop place-Inv-search place-μ-search
 place-returns-2 t c = record {

@@ -31,11 +31,17 @@ array-share-prefix-types c =
     omega (arith, length-front (c .before .before .before .before .before .no-types .result) (c .before .before .take-for-use .last .1 .1 .1 .1 .1 .0) (length (c .before .before .before .before .before .before .before .before .before .before .args .marks .now)) (c .before .before .take-for-use .kept .1 .1 .1 .1 .1 .0), sized 512 (c .before .before .before .before .before .no-types .ensures), c .before .before .before .before .before .before .before .before .before .before .pre .1)
 
 -- the types of the places come back from the search as they were left
-types-back : (c : tie.After-types3) → take (length (c .before .before .before .before .before .before .before .before .before .before .before .args .marks .now)) (c .before .before .before .take-for-use .last .1 .1 .1 .1 .1 .0 ++ drop (length (c .before .before .before .before .before .before .before .before .before .before .before .args .marks .now)) (c .before .before .before .before .before .before .no-types .result)) ≡ c .before .before .before .take-for-use .last .1 .1 .1 .1 .1 .0
-types-back c = front-back (c .before .before .before .before .before .before .no-types .result) (c .before .before .before .take-for-use .last .1 .1 .1 .1 .1 .0) (length (c .before .before .before .before .before .before .before .before .before .before .before .args .marks .now)) (omega (arith, sized 512 (c .before .before .before .before .before .before .no-types .ensures), c .before .before .before .before .before .before .before .before .before .before .before .pre .1)) (c .before .before .before .take-for-use .kept .1 .1 .1 .1 .1 .0)
+types-back : (c : tie.After-types3)
+    → take (length (c .before .before .before .before .before .before .before .before .before .before .before .args .marks .now)) (c .before .before .before .take-for-use .last .1 .1 .1 .1 .1 .0 ++ drop (length (c .before .before .before .before .before .before .before .before .before .before .before .args .marks .now)) (c .before .before .before .before .before .before .no-types .result))
+    ≡ c .before .before .before .take-for-use .last .1 .1 .1 .1 .1 .0
+types-back c =
+    front-back (c .before .before .before .before .before .before .no-types .result) (c .before .before .before .take-for-use .last .1 .1 .1 .1 .1 .0) (length (c .before .before .before .before .before .before .before .before .before .before .before .args .marks .now))
+    (omega (arith, sized 512 (c .before .before .before .before .before .before .no-types .ensures), c .before .before .before .before .before .before .before .before .before .before .before .pre .1)) (c .before .before .before .take-for-use .kept .1 .1 .1 .1 .1 .0)
 
 types-length : (c : tie.After-types3) → length (c .before .before .before .take-for-use .last .1 .1 .1 .1 .1 .0) ≡ length (c .before .before .before .before .before .before .before .before .before .before .before .args .marks .now)
-types-length c = c .before .before .before .take-for-use .kept .1 .1 .1 .1 .1 .0 ∙ length-take-le (length (c .before .before .before .before .before .before .before .before .before .before .before .args .marks .now)) (c .before .before .before .before .before .before .no-types .result) (omega (arith, sized 512 (c .before .before .before .before .before .before .no-types .ensures), c .before .before .before .before .before .before .before .before .before .before .before .pre .1))
+types-length c =
+    c .before .before .before .take-for-use .kept .1 .1 .1 .1 .1 .0
+    ∙ length-take-le (length (c .before .before .before .before .before .before .before .before .before .before .before .args .marks .now)) (c .before .before .before .before .before .before .no-types .result) (omega (arith, sized 512 (c .before .before .before .before .before .before .no-types .ensures), c .before .before .before .before .before .before .before .before .before .before .before .pre .1))
 
 slice-aggregate-fill : tie.Need-slice-aggregate-fill
 slice-aggregate-fill c = sym (ap length (types-back c) ∙ types-length c)
@@ -48,14 +54,17 @@ fill-requires c κs =
 same-length : tie.Need-same-length
 same-length c = search needs
 
+left-of-requires-2 : tie.Need-left-of-requires-2
+left-of-requires-2 c κs = search needs
+
 returns : tie.Need-returns
 returns c =
-    let a = c .before .before .before .before .before .before .before .before .before .before .before .before .before .before .before .args in
-    let p = c .before .before .before .before .before .before .before .before .before .before .before .before .before .before .before .pre in
-    let last = c .before .before .before .before .before .before .before .take-for-use .last .1 .1 .1 .1 .1 .0 in
-    step-done (a .reserved .now) (a .marks .now) last _ (a .steps .now) _ _ (a .number) (a .positions) (c .before .before .before .before .before .before .before .take-for-use .result) (c .before .before .before .before .before .left-of .result) (c .before .before .fill .result)
-    (c .before .before .before .before .before .before .before .take-for-use .ensures) (types-back (c .before .before .before .before)) (p .3)
-    (c .before .before .before .before .before .left-of .ensures) (c .before .before .fill .ensures .0) (c .before .before .fill .ensures .1)
+    let f = c .before .before .before in
+    let k = c .before .before .before .before .before .before .before .before in
+    let start = c .before .before .before .before .before .before .before .before .before .before .before .before .before .before .before .before in
+    step-done (start .args .reserved .now) (start .args .marks .now) (k .take-for-use .last .1 .1 .1 .1 .1 .0) _ (start .args .steps .now) _ _ (start .args .number) (start .args .positions)
+    (k .take-for-use .result) (c .before .before .before .before .before .before .left-of .result) (f .fill .result) (c .left-of2 .result)
+    (k .take-for-use .ensures) (types-back (c .before .before .before .before .before)) (start .pre .3) (c .before .before .before .before .before .before .left-of .ensures) (f .fill .ensures .0) (f .fill .ensures .1) (c .left-of2 .ensures)
 
 pub step-spec : {M : Type 1} → statement M
 step-spec =
@@ -69,5 +78,6 @@ step-spec =
     array-share-prefix-types
     slice-aggregate-fill
     fill-requires
+    left-of-requires-2
     same-length
     returns)

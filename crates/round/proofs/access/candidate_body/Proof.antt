@@ -1,3 +1,5 @@
+-- `round::access::candidate_body` meets its contract: the table has where the record starts (proofs/Bodies.antt).
+-- Assumes nothing.
 use Rattle.round.proofs.Bodies.{candidate-there, candidate-read}
 use borrow.Author.Needs.{needs}
 use Rattle.round.proofs.access.candidate_body.Statement.{statement}

@@ -1,3 +1,5 @@
+-- `round::access::candidate_category` meets its contract: the first byte of the body.
+-- Assumes nothing.
 use mathlib.Core.Path.{_∙_}
 use Rattle.round.proofs.Bodies.{category-of-body}
 use borrow.Author.Needs.{needs}

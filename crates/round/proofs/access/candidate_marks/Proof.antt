@@ -1,3 +1,5 @@
+-- `round::access::candidate_marks` meets its contract: the second byte of the body.
+-- Assumes nothing.
 use Rattle.round.proofs.Bodies.{marks-of-body}
 use borrow.Author.Needs.{needs}
 use Rattle.round.proofs.access.candidate_marks.Statement.{statement}

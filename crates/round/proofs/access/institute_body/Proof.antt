@@ -1,3 +1,5 @@
+-- `round::access::institute_body` meets its contract: institutes have one length, which says where each starts (proofs/Bodies.antt).
+-- Assumes nothing.
 use native.Mathlib.Omega.{arith}
 use denote.Ref.{now}
 use Rattle.round.proofs.Bodies.{types-few, institute-there, institute-read}

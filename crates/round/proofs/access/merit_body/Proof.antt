@@ -1,3 +1,5 @@
+-- `round::access::merit_body` meets its contract: the table has where the record starts (proofs/Bodies.antt).
+-- Assumes nothing.
 use Rattle.round.proofs.Bodies.{list-there, list-read}
 use borrow.Author.Needs.{needs}
 use Rattle.round.proofs.access.merit_body.Statement.{statement}

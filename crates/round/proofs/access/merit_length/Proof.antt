@@ -1,3 +1,5 @@
+-- `round::access::merit_length` meets its contract: the numbers of the body.
+-- Assumes nothing.
 use mathlib.Core.Path.{sym}
 use Rattle.round.proofs.Bodies.{list-length}
 use borrow.Author.Needs.{needs}

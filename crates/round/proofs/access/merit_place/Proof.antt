@@ -1,3 +1,5 @@
+-- `round::access::merit_place` meets its contract: the number of the body at the place.
+-- Assumes nothing.
 use mathlib.Core.Path.{sym, _∙_}
 use native.Mathlib.Omega.{arith}
 use denote.Ref.{now}

@@ -1,4 +1,5 @@
-use mathlib.Core.Path.{sym, _∙_}
+-- `round::access::row_entry` meets its contract: the two bytes of the entry.
+-- Assumes nothing.
 use native.Mathlib.Omega.{arith}
 use denote.Ref.{now}
 use Rattle.round.proofs.Bodies.{row-length, entry-read}

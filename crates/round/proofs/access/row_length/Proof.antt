@@ -1,3 +1,5 @@
+-- `round::access::row_length` meets its contract: the entries of the body.
+-- Assumes nothing.
 use mathlib.Core.Path.{sym, _∙_}
 use Rattle.round.proofs.Bodies.{row-length}
 use borrow.Author.Needs.{needs}

@@ -1,3 +1,5 @@
+-- `round::candidate::candidate_no` meets its contract: the tests come in the order of the questions.
+-- Assumes nothing.
 use mathlib.Core.Path.{refl, sym, _∙_}
 use borrow.Author.Tests.{not-true, not-false}
 use Rattle.round.proofs.Words.{ask-no, ask-yes}

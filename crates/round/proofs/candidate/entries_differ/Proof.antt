@@ -1,3 +1,5 @@
+-- `round::candidate::entries_differ` meets its contract: each entry passed differs from all before it.
+-- Assumes nothing.
 use borrow.Author.Needs.{needs}
 use Prim.Native.Nat.{ℕ, _≤_, _<_, _-_}
 use mathlib.Core.Path.{_≡_, refl, sym, ap, _∙_}

@@ -1,3 +1,5 @@
+-- `round::candidate::entries_lawful` meets its contract: each entry passed is lawful.
+-- Assumes nothing.
 use Rattle.round.specs.Questions.{entryCount}
 use borrow.Author.Needs.{needs}
 use Prim.Native.Nat.{ℕ, _≤_, _<_, _-_}

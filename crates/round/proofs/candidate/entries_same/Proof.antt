@@ -1,5 +1,6 @@
+-- `round::candidate::entries_same` meets its contract: the two tests are those of the definition.
+-- Assumes nothing.
 use borrow.Author.Tests.{eq-eqb, ne-eqb}
-use mathlib.Core.Path.{sym}
 use mathlib.Core.Path.{refl}
 use Rattle.round.proofs.Words.{and-false, and-true}
 use borrow.Author.Needs.{needs}

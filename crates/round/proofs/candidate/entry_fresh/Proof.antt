@@ -1,3 +1,5 @@
+-- `round::candidate::entry_fresh` meets its contract: each entry passed differs.
+-- Assumes nothing.
 use borrow.Author.Needs.{needs}
 use Prim.Native.Nat.{_≤_, _-_}
 use mathlib.Core.Path.{_≡_, refl, sym, ap, _∙_}

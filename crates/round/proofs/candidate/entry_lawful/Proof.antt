@@ -1,6 +1,6 @@
+-- `round::candidate::entry_lawful` meets its contract: the tests are those of the definition.
+-- Assumes nothing.
 use borrow.Author.Tests.{eq-eqb, ne-eqb}
-use mathlib.Core.Path.{refl, sym, ap, _∙_}
-use mathlib.Core.Bool.{_||_}
 use Rattle.round.proofs.Words.{and-false, and-true, within-no, within-yes, or-true, or-false}
 use borrow.Author.Needs.{needs}
 use Rattle.round.proofs.candidate.entry_lawful.Statement.{statement}

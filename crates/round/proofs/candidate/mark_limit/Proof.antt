@@ -1,3 +1,5 @@
+-- `round::candidate::mark_limit` meets its contract: the shift is the power.
+-- Assumes nothing.
 use Rattle.round.proofs.Words.{power}
 use borrow.Author.Needs.{needs}
 use Rattle.round.proofs.candidate.mark_limit.Statement.{statement}

@@ -1,4 +1,6 @@
-use Prim.Native.Nat.{ℕ, suc}
+-- `round::candidate::marks_lawful` meets its contract: the two tests are those of the definition.
+-- Assumes nothing.
+use Prim.Native.Nat.{ℕ}
 use mathlib.Core.Path.{ap₂}
 use lib.Dec.{ltb}
 use Rattle.round.proofs.Words.{and-false, and-true, leb-no, leb-yes}

@@ -1,4 +1,6 @@
-use mathlib.Core.Path.{_≡_, refl, sym, _∙_}
+-- `round::entry::category_of` meets its contract: a number that is no code counts as open, as in the definition.
+-- Assumes nothing.
+use mathlib.Core.Path.{sym, _∙_}
 use Rattle.round.proofs.Codes.{unknown-open, known-category}
 use borrow.Author.Needs.{needs}
 use Rattle.round.proofs.entry.category_of.Statement.{statement}

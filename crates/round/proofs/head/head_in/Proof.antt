@@ -1,3 +1,5 @@
+-- `round::head::head_in` meets its contract: each number is the word at its place.
+-- Assumes nothing.
 use borrow.Author.Needs.{needs}
 use Rattle.round.proofs.head.head_in.Statement.{statement}
 use Rattle.round.proofs.head.head_in.Tie as tie

@@ -1,9 +1,5 @@
-use mathlib.Core.Path.{_≡_, sym, ap, _∙_}
-use mathlib.Core.Bool.{Bool, true, false, not}
-use Prim.Native.Nat.{ℕ, _<_, _≤_}
-use lib.Dec.{leb}
-use borrow.Author.Tests.{not-true, not-false, lt-leb, le-leb}
-use Rattle.round.specs.Questions.{within}
+-- `round::head::head_no` meets its contract: the tests come in the order of the definition.
+-- Assumes nothing.
 use Rattle.round.proofs.Words.{within-no, within-yes, leb-no, leb-yes}
 use borrow.Author.Needs.{needs}
 use Rattle.round.proofs.head.head_no.Statement.{statement}

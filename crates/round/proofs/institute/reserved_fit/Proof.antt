@@ -1,3 +1,5 @@
+-- `round::institute::reserved_fit` meets its contract: each code passed fits.
+-- Assumes nothing.
 use borrow.Author.Needs.{needs}
 use Prim.Native.Nat.{ℕ, _≤_, _-_}
 use mathlib.Core.Path.{_≡_, refl, sym}

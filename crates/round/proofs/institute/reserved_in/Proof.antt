@@ -1,3 +1,5 @@
+-- `round::institute::reserved_in` meets its contract: the word of a code and a type lies within the body.
+-- Assumes nothing.
 use native.Mathlib.Omega.{arith}
 use Rattle.round.proofs.Words.{slot}
 use borrow.Author.Needs.{needs}

@@ -1,3 +1,5 @@
+-- `round::institute::reserved_sum` meets its contract: the sum so far is that of the types passed, and small enough not to wrap.
+-- Assumes nothing.
 use denote.Ref.{now}
 use mathlib.Core.Path.{sym}
 use Rattle.round.proofs.Words.{sum-step, reached}

@@ -1,15 +1,16 @@
+-- `round::merit::all_unseen` meets its contract: the table has the numbers passed, and these are all different.
+-- Assumes nothing.
 use Rattle.round.proofs.Seen.{read-again, read-more, read-room}
 use borrow.Author.Needs.{needs}
-use Prim.Native.Nat.{ℕ, _≤_, _<_, _-_}
-use mathlib.Core.Path.{_≡_, refl, sym, ap, _∙_}
-use mathlib.Core.List.{List}
+use Prim.Native.Nat.{_≤_, _<_, _-_}
+use mathlib.Core.Path.{sym, ap}
 use native.Mathlib.Omega.{arith}
-use lib.ListN.{length, replicate, length-replicate}
+use lib.ListN.{length}
 use denote.Ref.{now}
 use Rattle.round.specs.Lists.{apart}
 use Rattle.round.specs.Questions.{meritIn}
 use Rattle.round.proofs.Words.{reached}
-use Rattle.round.proofs.Seen.{Seen, same, seen-none}
+use Rattle.round.proofs.Seen.{length-none, Seen, same, seen-none}
 use Rattle.round.proofs.merit.all_unseen.Statement.{statement}
 use Rattle.round.proofs.merit.all_unseen.Tie as tie
 
@@ -32,7 +33,7 @@ slice-read-if1 c = let a = c .before .before .before .before .before .before .ar
     read-room (meritIn (now (a .body))) (l .p) (l .seen) (l .inv .1) (c .before .merit-in .ensures) small
 
 same-length : tie.Need-same-length Inv-loop μ-loop
-same-length c = omega (arith, c .before .before .before .before .loop .inv .1 .room, ap length (c .before .before .before .before .before .before .before .pre .0), length-replicate {A = ℕ} 513 0)
+same-length c = omega (arith, c .before .before .before .before .loop .inv .1 .room, ap length (c .before .before .before .before .before .before .before .pre .0), length-none)
 
 returns : tie.Need-returns Inv-loop μ-loop
 returns c = let a = c .before .before .before .before .before .before .before .args in
@@ -59,7 +60,7 @@ loop-again c = let a = c .before .before .before .before .before .before .before
     (omega arith, read-more (meritIn (now (a .body))) (l .p) (l .seen) (l .inv .1) (c .before .before .merit-in .ensures) small (c .if1 .left))
 
 same-length-2 : tie.Need-same-length-2 Inv-loop μ-loop
-same-length-2 c = omega (arith, c .before .loop .inv .1 .room, ap length (c .before .before .before .before .pre .0), length-replicate {A = ℕ} 513 0)
+same-length-2 c = omega (arith, c .before .loop .inv .1 .room, ap length (c .before .before .before .before .pre .0), length-none)
 
 returns-2 : tie.Need-returns-2 Inv-loop μ-loop
 returns-2 c = let a = c .before .before .before .before .args in

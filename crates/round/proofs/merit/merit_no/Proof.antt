@@ -1,4 +1,6 @@
-use Prim.Native.Nat.{ℕ, _<_, _≤_}
+-- `round::merit::merit_no` meets its contract: the tests come in the order of the questions.
+-- Assumes nothing.
+use Prim.Native.Nat.{ℕ, _<_}
 use mathlib.Core.Path.{_≡_, refl, sym, _∙_}
 use mathlib.Core.Bool.{true}
 use native.Mathlib.Omega.{arith}

@@ -1,3 +1,5 @@
+-- `round::reader::handed` meets its contract: by cases.
+-- Assumes nothing.
 use mathlib.Core.Path.{sym, ap}
 use Rattle.round.specs.Outcome.{handedUp}
 use borrow.Author.Needs.{needs}

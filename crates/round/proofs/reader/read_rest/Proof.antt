@@ -1,6 +1,7 @@
+-- `round::reader::read_rest` meets its contract: the three kinds in a row, put together (proofs/Rest.antt).
+-- Assumes nothing.
 use native.Mathlib.Omega.{arith}
 use denote.Ref.{now}
-use Rattle.round.specs.Read.{asHead}
 use Rattle.round.proofs.Rest.{institutes-refused, rows-refused, lists-refused, more-refused, rest-read}
 use borrow.Author.Needs.{needs}
 use Rattle.round.proofs.reader.read_rest.Statement.{statement}

@@ -1,3 +1,5 @@
+-- `round::reader::read_round` meets its contract: the head, and what follows it (proofs/Rest.antt).
+-- Assumes nothing.
 use native.Mathlib.Omega.{arith}
 use denote.Ref.{now}
 use Rattle.round.specs.Read.{asHead}

@@ -1,4 +1,6 @@
-use Prim.Native.Nat.{ℕ, _≤_}
+-- `round::records::body_no` meets its contract: each kind has its own questions.
+-- Assumes nothing.
+use Prim.Native.Nat.{ℕ}
 use mathlib.Core.Path.{_≡_, refl, sym, ap, _∙_}
 use mathlib.Core.Bool.{true}
 use native.Mathlib.Omega.{arith}

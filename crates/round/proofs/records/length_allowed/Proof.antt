@@ -1,3 +1,5 @@
+-- `round::records::length_allowed` meets its contract: the tests go by kind as the definition does.
+-- Assumes nothing.
 use mathlib.Core.Path.{refl, sym, _∙_}
 use borrow.Author.Tests.{eq-eqb, ne-eqb, le-leb, lt-leb, not-true, not-false}
 use Rattle.round.proofs.Words.{and-false, and-true, cond-yes, cond-no}

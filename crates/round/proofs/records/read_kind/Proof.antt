@@ -1,9 +1,8 @@
+-- `round::records::read_kind` meets its contract: the verdict on the rest stands for that on all (proofs/Run.antt).
+-- Assumes nothing.
 use borrow.Author.Needs.{needs}
-use Prim.Native.Nat.{ℕ, _≤_, _-_}
-use mathlib.Core.Path.{_≡_, sym, _∙_}
+use Prim.Native.Nat.{_-_}
 use native.Mathlib.Omega.{arith}
-use lib.ListN.{length}
-use denote.Ref.{now}
 use Rattle.round.specs.Read.{asHead}
 use Rattle.round.proofs.Run.{Run, run-none, run-refused, run-more, run-done}
 use Rattle.round.proofs.records.read_kind.Statement.{statement}

@@ -1,3 +1,5 @@
+-- `round::records::read_record` meets its contract: the first four questions, and then those of the body behind the lead bytes.
+-- Assumes nothing.
 use native.Mathlib.Omega.{arith}
 use denote.Ref.{now}
 use Rattle.round.specs.Read.{asHead}

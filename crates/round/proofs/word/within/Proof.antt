@@ -1,3 +1,5 @@
+-- `round::word::within` meets its contract: the two comparisons are the two tests of the definition.
+-- Assumes nothing.
 use mathlib.Core.Path.{sym}
 use borrow.Author.Tests.{le-leb, lt-leb}
 use Rattle.round.proofs.word.within.Statement.{statement}

@@ -1,3 +1,5 @@
+-- `round::word::word` meets its contract: the two bytes make the number, and each is below 256.
+-- Assumes nothing.
 use Prim.Native.Nat.{ℕ, suc}
 use mathlib.Core.Path.{_≡_, ap, _∙_}
 use native.Mathlib.Omega.{arith}

@@ -1,0 +1,78 @@
+// The reader and one institute's choice as functions for C and Rust, so that each can be compared with the second program by
+// itself. Not part of the unit.
+use choice::choose;
+use round::reader::Reading;
+use round::reader::read_round;
+ghost use mathlib.Core.Path.{_≡_};
+ghost use lib.ListN.{length};
+ghost use Rattle.round.specs.Refusal.{verdict};
+ghost use Rattle.probe.specs.Probe.{verdictIn, fitting, stepsAfter};
+
+fn candidate_table() -> [usize; 512]
+    ensures { λ r. ⌜ length r ≡ 512 ⌝ }
+{
+    [0; 512]
+}
+
+fn merit_table() -> [usize; 32]
+    ensures { λ r. ⌜ length r ≡ 32 ⌝ }
+{
+    [0; 32]
+}
+
+// The number of the first of questions 1 to 13 that is answered no, and its byte; 0 and 0 where each is answered yes.
+#[no_mangle]
+pub extern "C" fn tazbilk_verdict(file: &[u8], result: &mut [u64; 2])
+    ensures { λ _. ⌜ now (result .exit) ≡ verdictIn (now (result .entry)) (verdict (now (file .entry))) ⌝ }
+{
+    let mut candidates = candidate_table();
+    let mut merits = merit_table();
+    let got = read_round(file, &mut candidates, &mut merits);
+    match got {
+        Reading::Read(_) => {
+            result[0] = 0;
+            result[1] = 0;
+        }
+        Reading::Refused { number, offset } => {
+            result[0] = number as u64;
+            result[1] = offset as u64;
+        }
+    }
+}
+
+// Whether the lengths fit together: those of a body with so many types, of at most 512 places, and of the offers and steps.
+fn fits(types: usize, body: usize, places: usize, offers: usize, steps: usize) -> bool
+    ensures { λ r. ⌜ r ≡ fitting types body places offers steps ⌝ }
+{
+    if 8 < types {
+        return false;
+    }
+    if body != 10 + 10 * types {
+        return false;
+    }
+    if 512 < places {
+        return false;
+    }
+    if offers != places {
+        return false;
+    }
+    steps == places
+}
+
+// The step of each place by an institute's choice; where the lengths do not fit together, nothing happens.
+#[no_mangle]
+pub extern "C" fn tazbilk_choose(
+    body: &[u8],
+    types: usize,
+    policy: usize,
+    marks: &[u8],
+    offers: &[u8],
+    steps: &mut [u8],
+)
+    ensures { λ _. ⌜ now (steps .exit)
+        ≡ stepsAfter (now (body .entry)) types policy (now (marks .entry)) (now (offers .entry)) (now (steps .entry)) ⌝ }
+{
+    if fits(types, body.len(), marks.len(), offers.len(), steps.len()) {
+        choose(body, types, policy, marks, offers, steps);
+    }
+}

@@ -1,0 +1,25 @@
+# Read by ./compare and ./bench: makes the archives that are missing or older than the sources.
+
+# fresh NAME: whether the archive of a crate is there and newer than every source.
+fresh() {
+    local archive=target/staticlib/lib$1.a
+    [ -e "$archive" ] && [ -z "$(find crates crates.txt -newer "$archive" -print -quit)" ]
+}
+
+# made NAME: makes the archive of a crate unless it is fresh.
+made() {
+    if fresh "$1"; then return 0; fi
+    if ! command -v rt >/dev/null 2>&1; then
+        echo "missing: rt, the command of the Rattle kit (proves the unit and makes target/staticlib/lib$1.a)"
+        return 1
+    fi
+    mkdir -p target
+    echo "rt staticlib $1"
+    if ! rt staticlib "$1" >"target/staticlib-$1.log" 2>&1; then
+        echo "the archive of $1 could not be proved and made; see target/staticlib-$1.log"
+        return 1
+    fi
+}
+
+made allotment || return 1
+made probe || return 1

@@ -1,0 +1,62 @@
+//! Times the unit and the second program on the same files: `bench PAGE PLOT`, or `bench --stack` for the stack alone.
+
+use evidence::files::Made;
+use evidence::measure::{classes, growth, measure, Measured};
+use evidence::{plot, stack, table};
+use std::path::Path;
+use std::process::ExitCode;
+
+/// Measures classes one after the other, and tells each.
+fn measured(classes: Vec<(String, Made, Vec<u64>)>) -> Vec<Measured> {
+    classes
+        .into_iter()
+        .map(|(name, made, seeds)| {
+            let row = measure(&name, made, &seeds);
+            println!(
+                "{name}: unit {:.1} µs (best {:.1}), second {:.1} µs (best {:.1}), ratio {:.1}",
+                row.unit.median,
+                row.unit.best,
+                row.second.median,
+                row.second.best,
+                row.ratio()
+            );
+            row
+        })
+        .collect()
+}
+
+/// Writes a file, says where, and tells whether it could.
+fn put(path: &str, text: &str) -> bool {
+    let written = std::fs::write(path, text);
+    match &written {
+        Ok(()) => println!("written: {path}"),
+        Err(error) => eprintln!("not written: {path} ({error})"),
+    }
+    written.is_ok()
+}
+
+fn main() -> ExitCode {
+    let words: Vec<String> = std::env::args().skip(1).collect();
+    let words: Vec<&str> = words.iter().map(String::as_str).collect();
+    let done = match words[..] {
+        ["--stack"] => {
+            print!("{}", stack::text());
+            true
+        }
+        [page, picture] => {
+            let (classes, growth) = (measured(classes()), measured(growth()));
+            let name = Path::new(picture).file_name().unwrap_or_default();
+            let text = table::page(&classes, &growth, &stack::text(), &name.to_string_lossy());
+            put(page, &text) && put(picture, &plot::plot(&growth))
+        }
+        _ => {
+            eprintln!("bench PAGE PLOT | bench --stack");
+            return ExitCode::from(2);
+        }
+    };
+    if done {
+        ExitCode::SUCCESS
+    } else {
+        ExitCode::FAILURE
+    }
+}

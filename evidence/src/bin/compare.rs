@@ -1,0 +1,156 @@
+//! Compares the unit with the second program, class by class.
+
+use evidence::classes::Run;
+use evidence::fenced;
+use evidence::plan;
+use evidence::program::Program;
+use evidence::tally::Tally;
+use std::path::PathBuf;
+use std::process::ExitCode;
+
+const USAGE: &str = "compare [--long] [--seed S] [--only NAMES] [--rounds DIR] [--keep DIR] [--program PATH]
+--long runs 100,000 lawful rounds and 1,000,000 damaged files; --seed takes other made files; --only runs the classes whose names
+begin with one of these, parted by commas; --rounds is the folder of worked rounds; --keep is the folder that gets the first
+differing input of a class; --program is the unit's program, run on files and pipes.";
+
+/// The words of the command.
+struct Words {
+    run: Run,
+    only: Vec<String>,
+    rounds: PathBuf,
+    keep: PathBuf,
+    program: Option<PathBuf>,
+    fenced: bool,
+}
+
+/// Reads the words of the command.
+fn words() -> Option<Words> {
+    let mut words = Words {
+        run: Run {
+            seed: 1,
+            long: false,
+        },
+        only: vec![String::new()],
+        rounds: PathBuf::from("rounds"),
+        keep: PathBuf::from("target/compare"),
+        program: None,
+        fenced: false,
+    };
+    let mut given = std::env::args().skip(1);
+    while let Some(word) = given.next() {
+        match word.as_str() {
+            "--long" => words.run.long = true,
+            "--seed" => words.run.seed = given.next()?.parse().ok()?,
+            "--only" => words.only = given.next()?.split(',').map(str::to_string).collect(),
+            "--rounds" => words.rounds = given.next()?.into(),
+            "--keep" => words.keep = given.next()?.into(),
+            "--program" => words.program = Some(given.next()?.into()),
+            "--fenced" => words.fenced = true,
+            _ => return None,
+        }
+    }
+    Some(words)
+}
+
+/// The classes run so far.
+struct Book {
+    only: Vec<String>,
+    keep: PathBuf,
+    compared: usize,
+    passed: usize,
+    failed: usize,
+}
+
+impl Book {
+    /// Runs a class if it is asked for, and prints its line and its first differing case, whose input is kept.
+    fn class(&mut self, name: &str, run: impl FnOnce() -> Tally) {
+        if !self.only.iter().any(|wanted| name.starts_with(wanted)) {
+            return;
+        }
+        let tally = run();
+        println!("{}", tally.line());
+        self.compared += tally.compared;
+        if tally.passed() {
+            self.passed += 1;
+            return;
+        }
+        self.failed += 1;
+        let Some(difference) = tally.first else {
+            println!("  no case was run");
+            return;
+        };
+        print!("{}", difference.text());
+        let path = self
+            .keep
+            .join(name.replace(", ", "-").replace(' ', "-") + ".round");
+        let kept = std::fs::create_dir_all(&self.keep)
+            .and_then(|()| std::fs::write(&path, &difference.input));
+        if kept.is_ok() {
+            println!("  the input is kept in {}", path.display());
+        }
+    }
+}
+
+fn main() -> ExitCode {
+    let Some(words) = words() else {
+        eprintln!("{USAGE}");
+        return ExitCode::from(2);
+    };
+    let (run, rounds) = (words.run, words.rounds);
+    if words.fenced {
+        return match fenced::alone(&run, &rounds) {
+            Ok(()) => ExitCode::SUCCESS,
+            Err(_) => ExitCode::FAILURE,
+        };
+    }
+    let mut book = Book {
+        only: words.only,
+        keep: words.keep.clone(),
+        compared: 0,
+        passed: 0,
+        failed: 0,
+    };
+    println!(
+        "the unit against the second program, seed {}, {} form",
+        run.seed,
+        if run.long { "long" } else { "short" }
+    );
+    println!("{}", Tally::header());
+    book.class("rounds", || run.rounds(&rounds));
+    book.class("boundary", || run.boundary());
+    let made = plan::lawful(run.long)
+        .into_iter()
+        .chain(plan::damaged(run.long));
+    for (made, count) in made {
+        book.class(&made.name(), || run.class(made, count));
+    }
+    book.class("a, one byte changed", || run.changed());
+    book.class("a, cut and extended", || run.cut());
+    book.class("area lengths", || run.lengths(&rounds));
+    book.class("verdict", || run.verdicts(&rounds));
+    for (name, places, count) in plan::choices(run.long) {
+        book.class(name, || run.choices(name, places, count));
+    }
+    let stray = if run.long { 20_000 } else { 2_000 };
+    book.class("choose, stray marks", || run.stray(stray));
+    book.class(fenced::NAME, || fenced::class(&run, &rounds));
+    if let Some(path) = words.program {
+        let program = Program {
+            path,
+            scratch: words.keep,
+        };
+        for (name, class) in program.classes() {
+            book.class(name, || class(&program, &run, &rounds));
+        }
+    }
+    println!(
+        "{} comparisons in all; a class counts as one below",
+        book.compared
+    );
+    println!("{} passed, {} failed", book.passed, book.failed);
+    if book.failed == 0 && book.passed > 0 {
+        ExitCode::SUCCESS
+    } else {
+        ExitCode::FAILURE
+    }
+}

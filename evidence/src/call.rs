@@ -1,0 +1,98 @@
+//! One allotment call of the unit against one of the second program, both areas byte by byte.
+
+use crate::area::Area;
+use crate::difference::{area_text, Difference};
+use crate::tally::Came;
+use second::answer::{answer_bytes, call_on, work_bytes, Outcome};
+use second::random::Random;
+use second::reading::{read, LONGEST};
+use tazbilk::{Answer, Refusal, ANSWER_MOST, WORK_MOST};
+
+/// The lengths of the two lent areas.
+#[derive(Clone, Copy)]
+pub struct Lengths {
+    pub answer: usize,
+    pub work: usize,
+}
+
+/// The lengths that the round of a file needs, where it is read without refusal.
+pub fn needed(file: &[u8]) -> Option<Lengths> {
+    let round = read(file).ok()?;
+    Some(Lengths {
+        answer: answer_bytes(&round),
+        work: work_bytes(&round),
+    })
+}
+
+/// Lengths for a call: what the round needs or somewhat more, and any where the file is refused.
+pub fn some_lengths(random: &mut Random, file: &[u8]) -> Lengths {
+    let any = [0, 40, ANSWER_MOST, WORK_MOST];
+    match needed(file) {
+        Some(least) => Lengths {
+            answer: least.answer + random.pick(&[0, 0, 1, 40]),
+            work: least.work + random.pick(&[0, 0, 1, 40]),
+        },
+        None => Lengths {
+            answer: random.pick(&any),
+            work: random.pick(&any),
+        },
+    }
+}
+
+/// The second program's outcome as the unit's answer.
+fn answer_of(outcome: &Outcome) -> Answer {
+    match *outcome {
+        Outcome::Allotted { offers, .. } => Answer::Allotted { offers },
+        Outcome::Refused { number, offset } => Answer::Refused(Refusal {
+            number: usize::from(number),
+            offset,
+        }),
+    }
+}
+
+/// What a call came to.
+fn came(answer: &Answer) -> Came {
+    match answer {
+        Answer::Allotted { .. } => Came::Accepted,
+        Answer::Refused(refusal) => Came::Refused(refusal.number),
+    }
+}
+
+/// Makes one call of each on like areas and compares the answers, all bytes of both areas, their guards, and the file.
+pub fn compare(random: &mut Random, file: &[u8], lengths: Lengths) -> (Came, Option<Difference>) {
+    let mut answer = Area::new(random, lengths.answer);
+    let mut work = Area::new(random, lengths.work);
+    let (mut due_answer, mut due_work) = (answer.clone(), work.clone());
+    let given = file.to_vec();
+
+    let said = tazbilk::allot(&given, answer.lent(), work.lent());
+    let due = answer_of(&call_on(file, due_answer.lent(), due_work.lent()));
+
+    let kept = given == file;
+    let came = came(&due);
+    if said == due && answer == due_answer && work == due_work && kept {
+        return (came, None);
+    }
+    let text = |said: &Answer, answer: &Area, work: &Area, others: (&Area, &Area)| {
+        let (of_answer, of_work) = others;
+        let answer = area_text("answer", answer, of_answer);
+        format!("{said}{answer}{}", area_text("work", work, of_work))
+    };
+    let mut unit = text(&said, &answer, &work, (&due_answer, &due_work));
+    if !kept {
+        unit.push_str("; the file was written to");
+    }
+    let difference = Difference {
+        asked: format!(
+            "allot, answer area {}, work area {}",
+            lengths.answer, lengths.work
+        ),
+        input: file.to_vec(),
+        unit,
+        second: text(&due, &due_answer, &due_work, (&answer, &work)),
+    };
+    (came, Some(difference))
+}
+
+/// Files longer than any lawful one by this much are still tried.
+pub const OVER_LONG: usize = LONGEST + 10_000;

@@ -1,0 +1,165 @@
+//! One institute's choice by the unit against the second program's, on made cases.
+
+use crate::area::Area;
+use crate::difference::{area_text, hex, Difference};
+use crate::probe;
+use crate::tally::Came;
+use second::choice::{Document, Offer, Rule};
+use second::random::Random;
+use second::reading::{Candidate, Institute, Round, OPEN};
+use second::writing;
+
+/// An institute with at each merit place the marks and the offer of the candidate there.
+pub struct Case {
+    pub institute: Institute,
+    pub types: usize,
+    pub policy: usize,
+    pub marks: Vec<u8>,
+    pub offers: Vec<u8>,
+}
+
+impl Case {
+    /// A made case of so many places.
+    pub fn made(random: &mut Random, places: usize) -> Self {
+        let types = random.from_to(0, 8);
+        let policy = random.from_to(0, 1);
+        let most = random
+            .pick(&[1, 3, places / 8 + 1, places / 4 + 1, 204])
+            .min(204);
+        let institute = some_institute(random, types, most);
+        let thin = random.from_to(0, 2);
+        let near = random.one_in(3);
+        let marks = (0..places)
+            .map(|_| some_marks(random, types, thin, near))
+            .collect();
+        let kinds: &[u8] = random.pick(&[
+            &[0, 1, 1, 2, 3, 4, 4, 5],
+            &[1],
+            &[1, 4],
+            &[1, 1, 1, 4],
+            &[0, 1, 2, 3, 4, 5],
+        ]);
+        let offers = (0..places).map(|_| random.pick(kinds)).collect();
+        Case {
+            institute,
+            types,
+            policy,
+            marks,
+            offers,
+        }
+    }
+
+    /// The same case with marks above type L, which stand for no type.
+    pub fn with_stray_marks(mut self, random: &mut Random) -> Self {
+        for own in &mut self.marks {
+            let stray = random.bits() & random.bits() & 255;
+            *own |= ((stray >> self.types) << self.types) as u8;
+        }
+        self
+    }
+
+    /// The body of the institute's record.
+    pub fn body(&self) -> Vec<u8> {
+        writing::institute(&self.institute).split_off(4)
+    }
+
+    /// The step of each place by the second program, on a round with this one institute and its merit list in file order.
+    pub fn due(&self) -> Vec<u8> {
+        let candidates: Vec<Candidate> = self
+            .marks
+            .iter()
+            .map(|&marks| Candidate {
+                code: OPEN,
+                marks,
+                row: Vec::new(),
+            })
+            .collect();
+        let round = Round {
+            types: self.types,
+            policy: self.policy as u16,
+            institutes: vec![self.institute.clone()],
+            merit: vec![(0..candidates.len()).collect()],
+            candidates,
+        };
+        let offers: Vec<Offer> = (0..self.offers.len())
+            .filter(|&place| self.offers[place] > 0)
+            .map(|place| Offer {
+                candidate: place,
+                category: self.offers[place] - 1,
+            })
+            .collect();
+        let mut steps = vec![0; self.offers.len()];
+        for taken in Document.choose(&round, 0, &offers) {
+            steps[taken.offer.candidate] = taken.step;
+        }
+        steps
+    }
+}
+
+/// An institute with at most so many positions in each category, a random part of them reserved.
+fn some_institute(random: &mut Random, types: usize, most: usize) -> Institute {
+    let mut institute = Institute {
+        positions: [0; 5],
+        reserved: std::array::from_fn(|_| vec![0; types]),
+    };
+    for category in 0..5 {
+        let positions = random.from_to(0, most);
+        institute.positions[category] = positions;
+        let kinds = random.from_to(0, types);
+        if kinds > 0 {
+            for _ in 0..random.from_to(positions / 2, positions) {
+                institute.reserved[category][random.from_to(0, kinds - 1)] += 1;
+            }
+        }
+    }
+    institute
+}
+
+/// Marks of lawful types: thinner ones, or two neighbouring types, so that one move makes another.
+fn some_marks(random: &mut Random, types: usize, thin: usize, near: bool) -> u8 {
+    let all = (1usize << types) - 1;
+    if near && types > 1 && !random.one_in(6) {
+        let first = random.from_to(0, types - 1);
+        return (1 << first | 1 << ((first + 1) % types)) as u8;
+    }
+    let mut marks = random.bits() as usize & all;
+    for _ in 0..thin {
+        marks &= random.bits() as usize;
+    }
+    marks as u8
+}
+
+/// Lets each choose and compares the steps, and the bytes around them.
+pub fn compare(random: &mut Random, case: &Case) -> (Came, Option<Difference>) {
+    let mut steps = Area::new(random, case.offers.len());
+    let mut due = steps.clone();
+    let body = case.body();
+    probe::choose(
+        &body,
+        case.types,
+        case.policy,
+        &case.marks,
+        &case.offers,
+        steps.lent(),
+    );
+    due.lent().copy_from_slice(&case.due());
+    if steps == due {
+        return (Came::Accepted, None);
+    }
+    let text = |own: &Area, other: &Area| {
+        let place = area_text("steps", own, other);
+        format!("steps {}{place}", hex(own.seen()))
+    };
+    let difference = Difference {
+        asked: format!(
+            "choose, types {}, policy {}, {} places; the input is the body, the marks, the offers",
+            case.types,
+            case.policy,
+            case.offers.len()
+        ),
+        input: [body, case.marks.clone(), case.offers.clone()].concat(),
+        unit: text(&steps, &due),
+        second: text(&due, &steps),
+    };
+    (Came::Accepted, Some(difference))
+}

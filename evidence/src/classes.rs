@@ -1,0 +1,190 @@
+//! The classes of comparisons, each run to its tally.
+
+use crate::call::{self, needed, some_lengths, Lengths};
+use crate::choice::{self, Case};
+use crate::files::{cut_and_extended, one_byte_changed, Made, A};
+use crate::plan;
+use crate::tally::Tally;
+use crate::verdict;
+use second::generate::boundary;
+use second::generate::Class;
+use second::random::Random;
+use std::path::Path;
+
+/// What all classes are run with.
+#[derive(Clone, Copy)]
+pub struct Run {
+    pub seed: u64,
+    pub long: bool,
+}
+
+impl Run {
+    /// The source of numbers for a class, another for each name and seed.
+    pub fn random(&self, name: &str) -> Random {
+        let mixed = name.bytes().fold(self.seed, |state, byte| {
+            (state ^ u64::from(byte)).wrapping_mul(0x0100_0000_01b3)
+        });
+        Random::new(mixed)
+    }
+
+    /// Allotment calls on these files, with areas that suffice.
+    pub fn calls(&self, name: &str, count: usize, files: impl Iterator<Item = Vec<u8>>) -> Tally {
+        let mut random = self.random(name);
+        let mut tally = Tally::new(name, count, self.long);
+        for file in files {
+            let lengths = some_lengths(&mut random, &file);
+            let (came, difference) = call::compare(&mut random, &file, lengths);
+            tally.count(came, difference);
+        }
+        tally
+    }
+
+    /// So many files of a class.
+    fn made(&self, made: Made, count: usize) -> impl Iterator<Item = Vec<u8>> {
+        let mut random = self.random(&made.name());
+        // The worst rounds with the first seeds are fixed ones.
+        let fixed = matches!(made, Made::Worst(_));
+        (0..count as u64).map(move |number| {
+            let seed = random.bits();
+            made.file(if fixed && number < 3 { number } else { seed })
+        })
+    }
+
+    /// The files of the folder of worked rounds.
+    pub fn rounds(&self, folder: &Path) -> Tally {
+        let files = worked(folder);
+        self.calls("rounds", files.len(), files.into_iter())
+    }
+
+    /// The files at the edge of each question.
+    pub fn boundary(&self) -> Tally {
+        let files = boundary();
+        let count = files.len();
+        self.calls(
+            "boundary",
+            count,
+            files.into_iter().map(|(_, file, _)| file),
+        )
+    }
+
+    /// Made files of a class.
+    pub fn class(&self, made: Made, count: usize) -> Tally {
+        self.calls(&made.name(), count, self.made(made, count))
+    }
+
+    /// Every other value at every byte of file A.
+    pub fn changed(&self) -> Tally {
+        self.calls("a, one byte changed", 255 * A.len(), one_byte_changed())
+    }
+
+    /// File A cut and extended.
+    pub fn cut(&self) -> Tally {
+        let files = cut_and_extended();
+        self.calls("a, cut and extended", files.len(), files.into_iter())
+    }
+
+    /// Areas of lengths around each bound, on lawful files and on refused ones.
+    pub fn lengths(&self, folder: &Path) -> Tally {
+        let name = "area lengths";
+        let mut random = self.random(name);
+        let times = if self.long { 10 } else { 1 };
+        let mut files = worked(folder);
+        files.extend(self.made(Made::Lawful(Class::Tiny), 150 * times));
+        files.extend(self.made(Made::Lawful(Class::Small), 50 * times));
+        files.extend(self.made(Made::Lawful(Class::Mid), 4 * times));
+        files.extend(self.made(Made::TwoFaults, 20 * times));
+        let mut tally = Tally::new(name, files.len() * 49, self.long);
+        for file in files {
+            let least = needed(&file).unwrap_or(Lengths {
+                answer: 18,
+                work: 24,
+            });
+            for answer in around(&mut random, least.answer) {
+                for work in around(&mut random, least.work) {
+                    let lengths = Lengths { answer, work };
+                    let (came, difference) = call::compare(&mut random, &file, lengths);
+                    tally.count(came, difference);
+                }
+            }
+        }
+        tally
+    }
+
+    /// Verdicts on damaged and lawful files.
+    pub fn verdicts(&self, folder: &Path) -> Tally {
+        let classes = plan::verdicts(self.long);
+        let count = classes.iter().map(|(_, count)| count).sum();
+        let mut tally = Tally::new("verdict", count, self.long);
+        let made = classes
+            .into_iter()
+            .flat_map(|(made, count)| self.made(made, count));
+        let fixed = boundary().into_iter().map(|(_, file, _)| file);
+        for file in worked(folder)
+            .into_iter()
+            .chain(fixed)
+            .chain(cut_and_extended())
+            .chain(one_byte_changed())
+            .chain(made)
+        {
+            let (came, difference) = verdict::compare(&file);
+            tally.count(came, difference);
+        }
+        tally
+    }
+
+    /// Choices of one institute from the least to the most places.
+    pub fn choices(&self, name: &str, (least, most): (usize, usize), count: usize) -> Tally {
+        let mut random = self.random(name);
+        let mut tally = Tally::new(name, count, self.long);
+        for _ in 0..count {
+            let places = random.from_to(least, most);
+            let case = Case::made(&mut random, places);
+            let (came, difference) = choice::compare(&mut random, &case);
+            tally.count(came, difference);
+        }
+        tally
+    }
+
+    /// Choices with marks above type L.
+    pub fn stray(&self, count: usize) -> Tally {
+        let name = "choose, stray marks";
+        let mut random = self.random(name);
+        let mut tally = Tally::new(name, count, self.long);
+        for _ in 0..count {
+            let places = random.from_to(0, 40);
+            let case = Case::made(&mut random, places).with_stray_marks(&mut random);
+            let (came, difference) = choice::compare(&mut random, &case);
+            tally.count(came, difference);
+        }
+        tally
+    }
+}
+
+/// The lengths around a bound: none, one less, just so, one more, many more, and two below it.
+fn around(random: &mut Random, bound: usize) -> [usize; 7] {
+    [
+        0,
+        bound - 1,
+        bound,
+        bound + 1,
+        bound + 5_000,
+        bound / 2,
+        random.from_to(0, bound - 1),
+    ]
+}
+
+/// The round files of a folder, by name.
+pub fn worked(folder: &Path) -> Vec<Vec<u8>> {
+    let mut paths: Vec<_> = std::fs::read_dir(folder)
+        .into_iter()
+        .flatten()
+        .flatten()
+        .map(|entry| entry.path())
+        .filter(|path| path.extension().is_some_and(|end| end == "round"))
+        .collect();
+    paths.sort();
+    paths
+        .iter()
+        .filter_map(|path| std::fs::read(path).ok())
+        .collect()
+}

@@ -1,0 +1,161 @@
+//! Calls on bytes beside pages that nothing may touch, made in a process of their own, since one that strays ends it.
+
+use crate::call::some_lengths;
+use crate::choice::Case;
+use crate::classes::{worked, Run};
+use crate::difference::Difference;
+use crate::fence::{Fence, Side};
+use crate::files::{cut_and_extended, Made};
+use crate::probe;
+use crate::tally::{Came, Tally};
+use second::answer::{call_on, Outcome};
+use second::generate::{boundary, Class};
+use second::reading::read;
+use std::io::{self, Write};
+use std::path::Path;
+use std::process::{Command, Stdio};
+use tazbilk::{Answer, Refusal};
+
+/// The name of the class.
+pub const NAME: &str = "fenced";
+
+/// The files called on.
+fn files(run: &Run, folder: &Path) -> Vec<Vec<u8>> {
+    let mut files = worked(folder);
+    files.extend(boundary().into_iter().map(|(_, file, _)| file));
+    files.extend(cut_and_extended().into_iter().take(400));
+    let mut random = run.random(NAME);
+    let times = if run.long { 20 } else { 1 };
+    for (made, count) in [
+        (Made::Lawful(Class::Tiny), 300),
+        (Made::Lawful(Class::Small), 300),
+        (Made::Lawful(Class::Mid), 6),
+        (Made::TwoFaults, 200),
+        (Made::Torn, 1_000),
+    ] {
+        files.extend((0..count * times).map(|_| made.file(random.bits())));
+    }
+    files.extend((0..2_600 * times).map(|count| {
+        let number = (count % 13) as u8 + 1;
+        Made::Refused(number).file(random.bits())
+    }));
+    files
+}
+
+/// The answer of the second program as the unit's.
+fn due(outcome: Outcome) -> Answer {
+    match outcome {
+        Outcome::Allotted { offers, .. } => Answer::Allotted { offers },
+        Outcome::Refused { number, offset } => Answer::Refused(Refusal {
+            number: usize::from(number),
+            offset,
+        }),
+    }
+}
+
+/// Makes the calls; each file's number is printed before its call, and a word more where it differs.
+pub fn alone(run: &Run, folder: &Path) -> io::Result<()> {
+    let missing = || io::Error::other("no pages");
+    let files = files(run, folder);
+    let most = files.iter().map(Vec::len).max().unwrap_or(0);
+    let mut file_fence = Fence::new(most).ok_or_else(missing)?;
+    let mut answer_fence = Fence::new(8_192).ok_or_else(missing)?;
+    let mut work_fence = Fence::new(8_192).ok_or_else(missing)?;
+    let mut random = run.random("fenced areas");
+    let mut out = io::stdout().lock();
+    for (number, file) in files.iter().enumerate() {
+        writeln!(out, "{number}")?;
+        let lengths = some_lengths(&mut random, file);
+        let (mut answer, mut work) = (vec![3; lengths.answer], vec![5; lengths.work]);
+        let due = due(call_on(file, &mut answer, &mut work));
+        for side in [Side::Before, Side::Behind] {
+            let given = file_fence.lend_to_read(file, side);
+            let lent_answer = answer_fence.lend(&vec![3; lengths.answer], side);
+            let lent_work = work_fence.lend(&vec![5; lengths.work], side);
+            let said = tazbilk::allot(given, lent_answer, lent_work);
+            let passes = probe::verdict(given).is_ok() == read(file).is_ok();
+            if said != due || *lent_answer != answer || *lent_work != work || !passes {
+                writeln!(out, "{number} differs: {said}")?;
+            }
+        }
+    }
+    writeln!(out, "choices")?;
+    choices(run, &mut random)?;
+    writeln!(out, "end")
+}
+
+/// Makes choices whose body, marks, offers and steps each touch a fence.
+fn choices(run: &Run, random: &mut second::random::Random) -> io::Result<()> {
+    let fence = || Fence::new(1_024).ok_or_else(|| io::Error::other("no pages"));
+    let (mut of_body, mut of_marks) = (fence()?, fence()?);
+    let (mut of_offers, mut of_steps) = (fence()?, fence()?);
+    for _ in 0..if run.long { 20_000 } else { 2_000 } {
+        let places = random.from_to(0, 40);
+        let case = Case::made(random, places);
+        for side in [Side::Before, Side::Behind] {
+            let body = of_body.lend_to_read(&case.body(), side);
+            let marks = of_marks.lend_to_read(&case.marks, side);
+            let offers = of_offers.lend_to_read(&case.offers, side);
+            let steps = of_steps.lend(&vec![9; places], side);
+            probe::choose(body, case.types, case.policy, marks, offers, steps);
+            if *steps != case.due() {
+                return Err(io::Error::other("a choice differs"));
+            }
+        }
+    }
+    Ok(())
+}
+
+/// Has this program make the calls in a process of its own, by the word `--fenced`, and counts what it tells.
+pub fn class(run: &Run, folder: &Path) -> Tally {
+    let files = files(run, folder);
+    let mut tally = Tally::new(NAME, files.len(), run.long);
+    let told = std::env::current_exe().and_then(|path| {
+        let mut command = Command::new(path);
+        command.args(["--fenced", "--seed", &run.seed.to_string(), "--rounds"]);
+        command.arg(folder);
+        if run.long {
+            command.arg("--long");
+        }
+        command.stderr(Stdio::inherit()).output()
+    });
+    let (text, status) = match told {
+        Ok(output) => (
+            String::from_utf8_lossy(&output.stdout).into_owned(),
+            output.status.to_string(),
+        ),
+        Err(error) => (String::new(), error.to_string()),
+    };
+    let lines: Vec<&str> = text.lines().collect();
+    let ended = lines.last() == Some(&"end");
+    let different = |line: &str| Difference {
+        asked: "calls on bytes beside pages that nothing may touch".to_string(),
+        input: line
+            .split(' ')
+            .next()
+            .and_then(|number| files.get(number.parse::<usize>().ok()?))
+            .cloned()
+            .unwrap_or_default(),
+        unit: if line.contains("differs") {
+            line.to_string()
+        } else {
+            format!("the process ended ({status}) in this call or one of its choices")
+        },
+        second: "as on any other bytes".to_string(),
+    };
+    for (number, file) in files.iter().enumerate() {
+        let came = match read(file) {
+            Ok(_) => Came::Accepted,
+            Err(refusal) => Came::Refused(usize::from(refusal.number)),
+        };
+        let word = format!("{number} differs");
+        let line = lines.iter().find(|line| line.starts_with(&word));
+        let last = number + 1 == files.len() && !ended;
+        let difference = match line {
+            Some(line) => Some(different(line)),
+            None => last.then(|| different(lines.last().unwrap_or(&""))),
+        };
+        tally.count(came, difference);
+    }
+    tally
+}

@@ -1,0 +1,65 @@
+//! How many cases of each class are run.
+
+use crate::files::Made;
+use second::generate::Class;
+
+/// The classes of lawful files with how many of each, in the short or the long form; the short form has none of the slowest.
+pub fn lawful(long: bool) -> Vec<(Made, usize)> {
+    let of = |short, more| if long { more } else { short };
+    let mut classes = vec![
+        (Made::Lawful(Class::Tiny), of(20_000, 60_000)),
+        (Made::Lawful(Class::Small), of(8_000, 30_000)),
+        (Made::Lawful(Class::Mid), of(1_000, 10_000)),
+        (Made::Mixed, of(400, 6_000)),
+        (Made::Wide, of(300, 6_000)),
+        (Made::Contested(64), of(60, 1_000)),
+        (Made::Contested(128), of(12, 200)),
+        (Made::Contested(256), of(3, 40)),
+        (Made::Lawful(Class::Maximal), of(10, 400)),
+        (Made::Lawful(Class::Contested), of(3, 100)),
+        (Made::Lawful(Class::Crowded), of(6, 200)),
+        (Made::Worst(128), of(20, 400)),
+        (Made::Worst(256), of(3, 40)),
+        (Made::Worst(512), of(0, 12)),
+    ];
+    classes.retain(|&(_, count)| count > 0);
+    classes
+}
+
+/// The classes of damaged files with how many of each.
+pub fn damaged(long: bool) -> Vec<(Made, usize)> {
+    let each = if long { 40_000 } else { 3_000 };
+    let mut classes: Vec<(Made, usize)> = (1..=13)
+        .map(|number| (Made::Refused(number), each))
+        .collect();
+    classes.push((Made::TwoFaults, if long { 180_000 } else { 6_000 }));
+    classes.push((Made::Torn, if long { 300_000 } else { 10_000 }));
+    classes
+}
+
+/// The classes of files for verdicts with how many of each.
+pub fn verdicts(long: bool) -> Vec<(Made, usize)> {
+    let times = if long { 10 } else { 1 };
+    let mut classes = vec![
+        (Made::Lawful(Class::Tiny), 4_000 * times),
+        (Made::Lawful(Class::Small), 2_000 * times),
+        (Made::Lawful(Class::Mid), 200 * times),
+        (Made::Mixed, 300 * times),
+        (Made::Lawful(Class::Maximal), 10 * times),
+    ];
+    classes.extend((1..=13).map(|number| (Made::Refused(number), 2_000 * times)));
+    classes.push((Made::TwoFaults, 8_000 * times));
+    classes.push((Made::Torn, 14_000 * times));
+    classes
+}
+
+/// The classes of choices: a name, the least and the most places, and how many cases.
+pub fn choices(long: bool) -> Vec<(&'static str, (usize, usize), usize)> {
+    let times = if long { 10 } else { 1 };
+    vec![
+        ("choose, up to 12", (0, 12), 20_000 * times),
+        ("choose, up to 80", (13, 80), 2_000 * times),
+        ("choose, up to 512", (81, 512), 2_000 * times),
+        ("choose, 512", (512, 512), 1_000 * times),
+    ]
+}

@@ -1,0 +1,229 @@
+//! The unit's program: what it prints for a round file on standard input, against what the second program prints.
+
+use crate::classes::{worked, Run};
+use crate::difference::Difference;
+use crate::files::{Made, A};
+use crate::tally::{Came, Tally};
+use second::generate::{boundary, Class as Size};
+use second::printing::print;
+use second::random::Random;
+use second::reading::{read, LONGEST};
+use std::fs::File;
+use std::io::{self, Read, Write};
+use std::path::{Path, PathBuf};
+use std::process::{ChildStdin, Command, Stdio};
+use std::time::Duration;
+
+/// How the file reaches the program.
+#[derive(Clone, Copy, PartialEq, Eq)]
+enum Way {
+    /// As a file.
+    File,
+    /// Through a pipe, whole.
+    Pipe,
+    /// Through a pipe, a few bytes at a time.
+    Dribbled,
+}
+
+/// A class of runs of the program over the folder of worked rounds.
+pub type Class = fn(&Program, &Run, &Path) -> Tally;
+
+/// The program and the folder in which an input file is left for it.
+pub struct Program {
+    pub path: PathBuf,
+    pub scratch: PathBuf,
+}
+
+/// The parts into which at most a dribbled file falls, and the time between two.
+const PARTS: usize = 40;
+const BETWEEN: Duration = Duration::from_micros(300);
+
+/// Writes a file a few bytes at a time, each part after a pause in which the reader can take the one before.
+fn dribble(random: &mut Random, mut to: ChildStdin, file: &[u8]) {
+    let most = (2 * file.len() / PARTS).max(1);
+    let mut rest = file;
+    while !rest.is_empty() {
+        let (part, behind) = rest.split_at(random.from_to(1, most.min(rest.len())));
+        // A program that has read enough may close its end.
+        if to.write_all(part).is_err() {
+            return;
+        }
+        std::thread::sleep(BETWEEN);
+        rest = behind;
+    }
+}
+
+impl Program {
+    /// What the program prints for a file that reaches it in a way.
+    fn printed(&self, random: &mut Random, file: &[u8], way: Way) -> io::Result<String> {
+        let mut command = Command::new(&self.path);
+        command.stdout(Stdio::piped());
+        if way == Way::File {
+            std::fs::create_dir_all(&self.scratch)?;
+            let path = self.scratch.join("input");
+            std::fs::write(&path, file)?;
+            command.stdin(File::open(&path)?);
+        } else {
+            command.stdin(Stdio::piped());
+        }
+        let mut child = command.spawn()?;
+        let mut printed = Vec::new();
+        let input = child.stdin.take();
+        let output = child.stdout.take();
+        std::thread::scope(|scope| {
+            scope.spawn(|| match (input, way) {
+                (Some(to), Way::Dribbled) => dribble(random, to, file),
+                (Some(mut to), _) => drop(to.write_all(file)),
+                (None, _) => {}
+            });
+            output.map(|mut from| from.read_to_end(&mut printed))
+        })
+        .transpose()?;
+        let mut text = String::from_utf8_lossy(&printed).into_owned();
+        let status = child.wait()?;
+        if !status.success() {
+            text.push_str(&format!("({status})\n"));
+        }
+        Ok(text)
+    }
+
+    /// Runs the program on one file and compares the whole text.
+    fn compare(&self, random: &mut Random, tally: &mut Tally, file: &[u8], way: Way) {
+        let said = self
+            .printed(random, file, way)
+            .unwrap_or_else(|error| format!("(not run: {error})\n"));
+        let due = print(file);
+        let came = match read(file) {
+            Ok(_) => Came::Accepted,
+            Err(refusal) => Came::Refused(usize::from(refusal.number)),
+        };
+        let difference = (said != due).then(|| Difference {
+            asked: match way {
+                Way::File => "the program, its input a file".to_string(),
+                Way::Pipe => "the program, its input a pipe".to_string(),
+                Way::Dribbled => {
+                    "the program, its input a pipe with a few bytes at a time".to_string()
+                }
+            },
+            input: file.to_vec(),
+            unit: first_other_line(&said, &due),
+            second: first_other_line(&due, &said),
+        });
+        tally.count(came, difference);
+    }
+
+    /// The tally of these files in a way.
+    fn class(&self, run: &Run, name: &str, files: &[Vec<u8>], way: Way) -> Tally {
+        let mut random = run.random(name);
+        let mut tally = Tally::new(name, files.len(), run.long);
+        for file in files {
+            self.compare(&mut random, &mut tally, file, way);
+        }
+        tally
+    }
+
+    /// The classes of the program, by name: the lines expected, files, pipes, short reads, none and too much.
+    pub fn classes(&self) -> [(&'static str, Class); 6] {
+        [
+            ("program, expected", |program, run, folder| {
+                program.expected(run, folder)
+            }),
+            ("program, file", |program, run, folder| {
+                program.class(run, "program, file", &files(run, folder), Way::File)
+            }),
+            ("program, pipe", |program, run, folder| {
+                program.class(run, "program, pipe", &files(run, folder), Way::Pipe)
+            }),
+            ("program, dribbled", |program, run, folder| {
+                program.class(run, "program, dribbled", &files(run, folder), Way::Dribbled)
+            }),
+            ("program, over-long", |program, run, _| {
+                program.class(run, "program, over-long", &over_long(), Way::Pipe)
+            }),
+            ("program, over-long file", |program, run, _| {
+                program.class(run, "program, over-long file", &over_long(), Way::File)
+            }),
+        ]
+    }
+
+    /// The worked rounds against the lines that stand beside them.
+    fn expected(&self, run: &Run, folder: &Path) -> Tally {
+        let name = "program, expected";
+        let mut random = run.random(name);
+        let mut tally = Tally::new(name, 0, run.long);
+        for entry in std::fs::read_dir(folder).into_iter().flatten().flatten() {
+            let path = entry.path();
+            let Ok(due) = std::fs::read_to_string(path.with_extension("expected")) else {
+                continue;
+            };
+            if path.extension().is_none_or(|end| end != "round") {
+                continue;
+            }
+            let file = std::fs::read(&path).unwrap_or_default();
+            let said = self
+                .printed(&mut random, &file, Way::File)
+                .unwrap_or_else(|error| format!("(not run: {error})\n"));
+            let difference = (said != due).then(|| Difference {
+                asked: format!("the program, the worked round {}", path.display()),
+                input: file.clone(),
+                unit: first_other_line(&said, &due),
+                second: first_other_line(&due, &said),
+            });
+            let came = match read(&file) {
+                Ok(_) => Came::Accepted,
+                Err(refusal) => Came::Refused(usize::from(refusal.number)),
+            };
+            tally.count(came, difference);
+        }
+        tally
+    }
+}
+
+/// The files that the program is run on: worked rounds, boundary files and made ones.
+fn files(run: &Run, folder: &Path) -> Vec<Vec<u8>> {
+    let times = if run.long { 10 } else { 1 };
+    let mut files = worked(folder);
+    files.extend(boundary().into_iter().map(|(_, file, _)| file));
+    let mut random = run.random("program");
+    for (made, count) in [
+        (Made::Lawful(Size::Tiny), 100),
+        (Made::Lawful(Size::Small), 100),
+        (Made::Lawful(Size::Mid), 10),
+        (Made::Lawful(Size::Maximal), 1),
+        (Made::TwoFaults, 40),
+        (Made::Torn, 60),
+    ] {
+        files.extend((0..count * times).map(|_| made.file(random.bits())));
+    }
+    files
+}
+
+/// Nothing at all, and inputs longer than the longest lawful file, some of them by far.
+fn over_long() -> Vec<Vec<u8>> {
+    let longest = Made::Lawful(Size::Maximal).file(1);
+    let behind = |file: &[u8], more: usize| [file, &vec![0; more]].concat();
+    vec![
+        Vec::new(),
+        longest.clone(),
+        behind(&longest, 1),
+        behind(&longest, 4_096),
+        behind(&longest, 3_000_000),
+        behind(A, LONGEST - A.len()),
+        behind(A, LONGEST + 1 - A.len()),
+        behind(A, 3_000_000),
+        vec![0; LONGEST],
+        vec![255; LONGEST + 1],
+        vec![1; 3_000_000],
+    ]
+}
+
+/// The first line of a text that another has not at its place, with its number.
+fn first_other_line(text: &str, other: &str) -> String {
+    let mut others = other.lines();
+    for (number, line) in text.lines().enumerate() {
+        if others.next() != Some(line) {
+            return format!("line {}: {line}", number + 1);
+        }
+    }
+    format!("ends after {} lines", text.lines().count())
+}

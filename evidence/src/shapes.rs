@@ -1,0 +1,264 @@
+//! Lawful rounds of shapes that the second program's generator does not make.
+
+use second::random::Random;
+use second::reading::{Candidate, Entry, Institute, Round, OBC, OPEN};
+
+/// The seats that a category of an institute has, of them reserved for each type.
+fn put(institute: &mut Institute, category: usize, positions: usize, reserved: Vec<usize>) {
+    institute.positions[category] = positions;
+    institute.reserved[category] = reserved;
+}
+
+/// An institute without positions.
+fn bare(types: usize) -> Institute {
+    Institute {
+        positions: [0; 5],
+        reserved: std::array::from_fn(|_| vec![0; types]),
+    }
+}
+
+/// So many positions spread over the types at random.
+fn spread(random: &mut Random, types: usize, positions: usize) -> Vec<usize> {
+    let mut reserved = vec![0; types];
+    if types > 0 {
+        for _ in 0..positions {
+            reserved[random.from_to(0, types - 1)] += 1;
+        }
+    }
+    reserved
+}
+
+/// The entries open to a candidate of this code at the first m institutes, institute by institute.
+fn entries(m: usize, code: u8) -> Vec<Entry> {
+    let codes = if code == OPEN {
+        vec![OPEN]
+    } else {
+        vec![OPEN, code]
+    };
+    (0..m)
+        .flat_map(|institute| {
+            codes.iter().map(move |&category| Entry {
+                institute,
+                category,
+            })
+        })
+        .collect()
+}
+
+/// Swaps some values of a list with near ones.
+fn nearly_in_order<T>(random: &mut Random, list: &mut [T]) {
+    for place in 0..list.len() {
+        let other = (place + random.from_to(0, 3)).min(list.len() - 1);
+        list.swap(place, other);
+    }
+}
+
+/// A round of any number of candidates, small ones as often as large ones, with supply from scarce to ample.
+pub fn mixed(seed: u64) -> Round {
+    let mut random = Random::new(seed);
+    let most = 1 << random.from_to(0, 9);
+    let n = random.from_to(most / 2 + 1, most);
+    let m = random.from_to(1, (n / 2).clamp(1, 32));
+    let types = random.from_to(0, 8);
+    let each = (n * random.from_to(1, 6) / (10 * m)).clamp(1, 204);
+    let longest = random.from_to(1, 16);
+    let thin = random.from_to(0, 3);
+    let absent = random.pick(&[2, 10, 1000]);
+    let against = random.one_in(2);
+    let institutes = (0..m)
+        .map(|_| {
+            let mut institute = bare(types);
+            for category in 0..5 {
+                let positions = random.from_to(0, each);
+                let held = random.from_to(0, positions);
+                let reserved = spread(&mut random, types, held);
+                put(&mut institute, category, positions, reserved);
+            }
+            institute
+        })
+        .collect();
+    let candidates = (0..n)
+        .map(|_| {
+            let code = random.pick(&[0, 1, 2, 3, 3, 4]);
+            let mut marks = random.from_to(0, (1 << types) - 1) as u8;
+            for _ in 0..thin {
+                marks &= random.bits() as u8;
+            }
+            let mut row = entries(m, code);
+            if against {
+                nearly_in_order(&mut random, &mut row);
+            } else {
+                random.shuffle(&mut row);
+            }
+            row.truncate(random.from_to(0, longest));
+            Candidate { code, marks, row }
+        })
+        .collect();
+    let merit = (0..m)
+        .map(|_| {
+            let mut list: Vec<usize> = (0..n).rev().collect();
+            if against {
+                nearly_in_order(&mut random, &mut list);
+            } else {
+                random.shuffle(&mut list);
+            }
+            list.retain(|_| !random.one_in(absent));
+            list
+        })
+        .collect();
+    Round {
+        types,
+        policy: random.from_to(0, 1) as u16,
+        institutes,
+        candidates,
+        merit,
+    }
+}
+
+/// A round of 257 to 512 candidates, 512 as often as not, with short rows, so that numbers and places of two bytes come often and cheaply.
+pub fn wide(seed: u64) -> Round {
+    let mut random = Random::new(seed);
+    let n = random.pick(&[512, 0]).max(random.from_to(257, 512));
+    let m = random.from_to(4, 32);
+    let types = random.pick(&[0, 1, 2, 3, 8]);
+    let each = random.from_to(1, 600 / m / 5 + 1);
+    let longest = random.from_to(1, 4);
+    let institutes = (0..m)
+        .map(|_| {
+            let mut institute = bare(types);
+            for category in 0..5 {
+                let positions = random.from_to(0, each);
+                let held = random.from_to(0, positions / 2);
+                let reserved = spread(&mut random, types, held);
+                put(&mut institute, category, positions, reserved);
+            }
+            institute
+        })
+        .collect();
+    let candidates = (0..n)
+        .map(|_| {
+            let code = random.pick(&[0, 1, 2, 3, 4]);
+            let mut row = entries(m, code);
+            random.shuffle(&mut row);
+            row.truncate(random.from_to(0, longest));
+            let all = random.from_to(0, (1 << types) - 1);
+            Candidate {
+                code,
+                marks: all as u8 & random.bits() as u8,
+                row,
+            }
+        })
+        .collect();
+    let merit = (0..m)
+        .map(|_| {
+            let mut list: Vec<usize> = (0..n).collect();
+            random.shuffle(&mut list);
+            list
+        })
+        .collect();
+    Round {
+        types,
+        policy: random.pick(&[0, 1, 1]),
+        institutes,
+        candidates,
+        merit,
+    }
+}
+
+/// The contested shape at n candidates, a multiple of 64: eight institutes with n / 64 positions in each category, half of them reserved for 8 types, like rows of all entries, and merit against the order of going.
+pub fn contested(n: usize, seed: u64) -> Round {
+    let mut random = Random::new(seed);
+    let positions = n / 64;
+    let institutes = (0..8)
+        .map(|_| {
+            let mut institute = bare(8);
+            for category in 0..5 {
+                let reserved = spread(&mut random, 8, positions.div_ceil(2));
+                put(&mut institute, category, positions, reserved);
+            }
+            institute
+        })
+        .collect();
+    let candidates = (0..n)
+        .map(|_| {
+            let code = random.pick(&[0, 0, 1, 2, 3, 3, 3, 4]);
+            let mut row = entries(8, code);
+            nearly_in_order(&mut random, &mut row);
+            Candidate {
+                code,
+                marks: random.bits() as u8,
+                row,
+            }
+        })
+        .collect();
+    let merit = (0..8)
+        .map(|_| {
+            let mut list: Vec<usize> = (0..n).rev().collect();
+            nearly_in_order(&mut random, &mut list);
+            list
+        })
+        .collect();
+    Round {
+        types: 8,
+        policy: 1,
+        institutes,
+        candidates,
+        merit,
+    }
+}
+
+/// The two neighbouring types, the last one's neighbour being the first.
+fn two_types(first: usize) -> u8 {
+    1 << (first % 8) | 1 << ((first + 1) % 8)
+}
+
+/// A round hard on the placing search: n OBC candidates, a multiple of 16, at one institute whose open and OBC positions are n / 16 for each of 8 types, so that those who find no open one search again; seed 0 gives the steep one, where everybody holds every type and nearly all positions are of type 8, so that a search in the order of types visits all eight and moves a holder of each; 1 the full one, where everybody holds every type; 2 the chain; others mix these two.
+pub fn worst(n: usize, seed: u64) -> Round {
+    let mut random = Random::new(seed);
+    let each = n / 16;
+    let marks = |place: usize, random: &mut Random| match seed {
+        0 | 1 => 255,
+        2 => chain_marks(place, each),
+        _ => {
+            let two = two_types(random.from_to(0, 7));
+            random.pick(&[chain_marks(place, each), two, 255])
+        }
+    };
+    let mut reserved = vec![each; 8];
+    if seed == 0 {
+        reserved = vec![1; 8];
+        reserved[7] = 8 * each - 7;
+    }
+    let mut institute = bare(8);
+    put(
+        &mut institute,
+        usize::from(OPEN),
+        8 * each,
+        reserved.clone(),
+    );
+    put(&mut institute, usize::from(OBC), 8 * each, reserved);
+    // Merit goes against the numbers, so that everybody is displaced by those who offer later.
+    let candidates = (0..n)
+        .map(|number| Candidate {
+            code: OBC,
+            marks: marks(n - 1 - number, &mut random),
+            row: entries(1, OBC),
+        })
+        .collect();
+    Round {
+        types: 8,
+        policy: 0,
+        institutes: vec![institute],
+        candidates,
+        merit: vec![(0..n).rev().collect()],
+    }
+}
+
+/// The marks at a merit place of the chain: as many as a type has positions of types 1 and 2, as many of types 2 and 3 and so on to type 8 fill types 1 to 7, half as many of types 8 and 1 half of type 8; then the other half, of type 1 alone, each move one holder of every type, and everybody behind them searches all eight in vain.
+fn chain_marks(place: usize, each: usize) -> u8 {
+    match 2 * place / each {
+        half @ 0..=14 => two_types(half / 2),
+        15 => 1,
+        _ => two_types(place),
+    }
+}

@@ -1,0 +1,111 @@
+//! The stack that a call uses: it is run on a stack of its own, filled with a pattern beforehand, and the lowest byte changed tells.
+//!
+//! What the wrapper's own frame takes is counted in; bytes that are set aside and never written are not.
+
+use crate::choice::Case;
+use crate::files::Made;
+use crate::probe;
+use second::generate::Class;
+use second::random::Random;
+use std::arch::asm;
+use tazbilk::{ANSWER_MOST, WORK_MOST};
+
+/// The bytes of the stack that a call is run on.
+const STACK: usize = 1 << 20;
+
+/// Calls a closure behind a pointer.
+extern "C" fn enter(call: *mut &mut dyn FnMut()) {
+    // SAFETY: the pointer is that of `depth`'s own closure, which it holds until the call returns.
+    unsafe { (*call)() }
+}
+
+/// The bytes of stack that a call uses, by one pattern.
+fn depth_by(pattern: u8, call: &mut dyn FnMut()) -> usize {
+    let mut stack = vec![pattern; STACK];
+    let mut call: &mut dyn FnMut() = call;
+    // SAFETY: the stack pointer is set to the end of bytes held here, 16-byte aligned, is kept in a register that a C function
+    // leaves as it is, and is set back before they go; the unit calls back nothing and unwinds nothing.
+    unsafe {
+        let end = stack.as_mut_ptr().add(STACK);
+        let top = end.sub(end as usize % 16);
+        asm!(
+            "mov r12, rsp",
+            "mov rsp, {top}",
+            "call {enter}",
+            "mov rsp, r12",
+            top = in(reg) top,
+            enter = sym enter,
+            in("rdi") &mut call as *mut &mut dyn FnMut(),
+            out("r12") _,
+            clobber_abi("C"),
+        );
+    }
+    let untouched = stack.iter().take_while(|&&byte| byte == pattern).count();
+    STACK - untouched
+}
+
+/// The bytes of stack that a call uses; a written byte can look like one pattern, and not like both.
+pub fn depth(call: &mut dyn FnMut()) -> usize {
+    depth_by(0xa5, call).max(depth_by(0x5a, call))
+}
+
+/// The greatest stack of the calls on these files.
+fn greatest(files: &[Vec<u8>], call: impl Fn(&[u8])) -> usize {
+    files
+        .iter()
+        .map(|file| depth(&mut || call(file)))
+        .max()
+        .unwrap_or(0)
+}
+
+/// The files whose calls are measured: lawful ones of all classes, the worst ones, and refused ones.
+fn files() -> Vec<Vec<u8>> {
+    let mut files = vec![Vec::new()];
+    for class in Class::ALL {
+        files.extend((1..=5).map(|seed| Made::Lawful(class).file(seed)));
+    }
+    files.extend((0..4).map(|seed| Made::Worst(512).file(seed)));
+    files.extend(
+        (1..=13).flat_map(|number| (0..5).map(move |seed| Made::Refused(number).file(seed))),
+    );
+    files
+}
+
+/// What was measured, as lines of text.
+pub fn text() -> String {
+    let nothing = depth(&mut || {});
+    let files = files();
+    let (answer, work) = (
+        std::cell::RefCell::new([0; ANSWER_MOST]),
+        std::cell::RefCell::new([0; WORK_MOST]),
+    );
+    let allot = greatest(&files, |file| {
+        tazbilk::allot(file, &mut *answer.borrow_mut(), &mut *work.borrow_mut());
+    });
+    let verdict = greatest(&files, |file| {
+        let _ = probe::verdict(file);
+    });
+    let mut random = Random::new(1);
+    let mut choose = 0;
+    for number in 0..400 {
+        let case = Case::made(&mut random, if number < 40 { 512 } else { 60 });
+        let body = case.body();
+        let mut steps = vec![0; case.offers.len()];
+        choose = choose.max(depth(&mut || {
+            probe::choose(
+                &body,
+                case.types,
+                case.policy,
+                &case.marks,
+                &case.offers,
+                &mut steps,
+            );
+        }));
+    }
+    format!(
+        "Each call is run on a stack of its own that a pattern fills beforehand; the lowest byte changed tells how deep it went. The\n\
+         greatest over {} files of all classes, the worst and the refused ones among them, in bytes: allot {allot}, verdict {verdict}; over\n\
+         400 single choices: choose {choose}. A call of nothing takes {nothing}, which is counted in, and so is the wrapper.\n",
+        files.len()
+    )
+}

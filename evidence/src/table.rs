@@ -1,0 +1,68 @@
+//! What was measured, as a Markdown page.
+
+use crate::measure::Measured;
+use std::fmt::Write;
+
+/// A number with three leading digits and no more.
+fn short(number: f64) -> String {
+    match number {
+        n if n >= 100.0 => format!("{n:.0}"),
+        n if n >= 10.0 => format!("{n:.1}"),
+        n => format!("{n:.2}"),
+    }
+}
+
+/// The lines of a table.
+fn table(rows: &[Measured]) -> String {
+    let mut text = String::from(
+        "| class | n | offers | calls timed, unit / second | unit, median µs | unit, best µs | unit, offers a second | second, median µs | second, best µs | second, offers a second | second / unit |\n\
+         |---|---:|---:|---:|---:|---:|---:|---:|---:|---:|---:|\n",
+    );
+    for row in rows {
+        let rate = |median: f64| short(row.offers / median * 1e6);
+        let _ = writeln!(
+            text,
+            "| {} | {} | {} | {} / {} | {} | {} | {} | {} | {} | {} | {} |",
+            row.name,
+            row.n,
+            short(row.offers),
+            row.unit.calls,
+            row.second.calls,
+            short(row.unit.median),
+            short(row.unit.best),
+            rate(row.unit.median),
+            short(row.second.median),
+            short(row.second.best),
+            rate(row.second.median),
+            short(row.ratio())
+        );
+    }
+    text
+}
+
+/// The name of the processor, where the system tells it.
+fn processor() -> String {
+    std::fs::read_to_string("/proc/cpuinfo")
+        .ok()
+        .and_then(|text| {
+            let line = text.lines().find(|line| line.starts_with("model name"))?;
+            Some(line.split(':').nth(1)?.trim().to_string())
+        })
+        .unwrap_or_else(|| "an unnamed processor".to_string())
+}
+
+/// The whole page; the plot stands under this name beside it.
+pub fn page(classes: &[Measured], growth: &[Measured], stack: &str, plot: &str) -> String {
+    format!(
+        "# What a call costs\n\n\
+         Written by `./bench`: one process, one core of {}, both built for release, the same files for the unit and the second\n\
+         program. A class has 1 to 20 files; each time is the mean over them of the median, or the best, of the calls timed, three\n\
+         of each file at least. n is the largest number of candidates. The worst ones are hard on the\n\
+         placing search: one institute, half of all candidates too many for its 8 types (`evidence/src/shapes.rs`).\n\n\
+         {}\n## Cost over n\n\nThe contested shape, all but n and the positions equal.\n\n{}\n![cost over n]({plot})\n\n\
+         ## Stack\n\n{stack}",
+        processor(),
+        table(classes),
+        table(growth)
+    )
+}

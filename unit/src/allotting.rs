@@ -1,0 +1,22 @@
+//! The allotment call.
+
+use crate::answer::Answer;
+use crate::boundary::tazbilk_allot;
+
+/// Allots the seats of a round file; what both areas hold afterwards is fixed by document 01 for every file.
+pub fn allot(file: &[u8], answer: &mut [u8], work: &mut [u8]) -> Answer {
+    let mut result = [0; 3];
+    // SAFETY: the unit reads the file and writes the areas and the result within the lengths given, keeps none of them, and asks for nothing else.
+    unsafe {
+        tazbilk_allot(
+            file.as_ptr(),
+            file.len(),
+            answer.as_mut_ptr(),
+            answer.len(),
+            work.as_mut_ptr(),
+            work.len(),
+            &mut result,
+        );
+    }
+    Answer::of(result)
+}
