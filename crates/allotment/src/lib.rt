@@ -1,14 +1,16 @@
 // The allotment of a round.
-pub mod areas;
-pub mod call;
-pub mod clearing;
-pub mod closing;
-pub mod export;
-pub mod gather;
-pub mod process;
-pub mod scatter;
-pub mod table;
-pub mod turn;
+mod areas;
+mod call;
+mod clearing;
+mod closing;
+mod export;
+mod gather;
+mod process;
+mod scatter;
+mod table;
+mod turn;
+
+pub use call::allot;
 
 // The answer of a call: the number of offers, or the number of the refusal with its byte.
 pub enum Answer {

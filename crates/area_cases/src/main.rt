@@ -1,0 +1,79 @@
+// File A with lent areas of several lengths, full of other bytes beforehand: what the call answers, and every byte of both areas
+// afterwards.
+use allotment::Answer;
+ghost use mathlib.Core.Path.{_≡_};
+ghost use Prim.Native.Nat.{_≤_};
+ghost use lib.ListN.{length};
+
+// An answer area with room to spare.
+fn answer_room() -> [u8; 24]
+    ensures { λ r. ⌜ length r ≡ 24 ⌝ }
+{
+    [170; 24]
+}
+
+// A work area with room to spare.
+fn work_room() -> [u8; 32]
+    ensures { λ r. ⌜ length r ≡ 32 ⌝ }
+{
+    [187; 32]
+}
+
+// Lends the first bytes of both rooms to a call, and prints the answer and both rooms whole.
+fn shown(file: &[u8], answer: &mut [u8], work: &mut [u8], answering: usize, working: usize)
+    requires { ⌜ answering ≤ length (now answer) ⌝ }
+    requires { ⌜ working ≤ length (now work) ⌝ }
+{
+    let got = allotment::allot(file, &mut answer[..answering], &mut work[..working]);
+    match got {
+        Answer::Allotted(offers) => lines::allotted(file, offers, answer),
+        Answer::Refused { number, offset } => lines::refused(number, offset),
+    }
+    lines::area(answer);
+    lines::area(work);
+}
+
+// Makes both rooms and shows a call with their first bytes.
+fn show(file: &[u8], answering: usize, working: usize)
+    requires { ⌜ answering ≤ 24 ⌝ }
+    requires { ⌜ working ≤ 32 ⌝ }
+{
+    let mut answer = answer_room();
+    let mut work = work_room();
+    shown(file, &mut answer, &mut work, answering, working);
+}
+
+// File A.
+fn file_a(answering: usize, working: usize)
+    requires { ⌜ answering ≤ 24 ⌝ }
+    requires { ⌜ working ≤ 32 ⌝ }
+{
+    show(
+        b"\x08\x00\x01\x00\x03\x00\x01\x00\x01\x00\x01\x00\x14\x00\x02\x00\x01\x00\x01\x00\x00\x00\x00\x00\x00\x00\x00\x00\x01\x00\x00\x00\x00\x00\x00\x00\x04\x00\x03\x00\x00\x00\x01\x00\x06\x00\x03\x00\x03\x00\x01\x00\x01\x03\x04\x00\x03\x00\x00\x01\x01\x00\x06\x00\x04\x00\x01\x00\x02\x00\x03\x00",
+        answering,
+        working,
+    );
+}
+
+// File A without its last byte.
+fn cut(answering: usize, working: usize)
+    requires { ⌜ answering ≤ 24 ⌝ }
+    requires { ⌜ working ≤ 32 ⌝ }
+{
+    show(
+        b"\x08\x00\x01\x00\x03\x00\x01\x00\x01\x00\x01\x00\x14\x00\x02\x00\x01\x00\x01\x00\x00\x00\x00\x00\x00\x00\x00\x00\x01\x00\x00\x00\x00\x00\x00\x00\x04\x00\x03\x00\x00\x00\x01\x00\x06\x00\x03\x00\x03\x00\x01\x00\x01\x03\x04\x00\x03\x00\x00\x01\x01\x00\x06\x00\x04\x00\x01\x00\x02\x00\x03",
+        answering,
+        working,
+    );
+}
+
+fn main() {
+    // 2n + 12m = 18 and 8n = 24 for file A
+    file_a(17, 24);
+    file_a(18, 24);
+    file_a(18, 23);
+    file_a(20, 26);
+    file_a(24, 32);
+    // a refused file
+    cut(24, 32);
+}
