@@ -3,6 +3,7 @@ pub mod Offers
 pub mod Process
 pub mod Areas
 pub mod Outcome
+pub mod Standing
 pub mod Truthful
 pub mod Stable
 pub mod Promise

@@ -1,38 +1,14 @@
 -- The first half of demand 3, in the words of document 01 ("The words of demand 3").
-use Prim.Native.Nat.{ℕ, suc, _-_, _<_, _≤_}
+use Prim.Native.Nat.{ℕ, _<_, _≤_}
 use mathlib.Core.Path.{_≡_}
 use mathlib.Core.Logic.{_≢_}
-use mathlib.Core.Bool.{Bool, cond, _&&_}
 use mathlib.Core.List.{List}
-use lib.Dec.{ltb}
-use lib.ListN.{length, take}
-use Rattle.round.specs.Questions.{within}
+use lib.ListN.{take}
 use Rattle.round.specs.Records.{headOf, recordOf, bodyOf, candidateRecord, recordCount}
-use Rattle.round.specs.Round.{Round}
 use Rattle.round.specs.Reading.{roundOf}
-use Rattle.round.specs.Places.{instituteAt}
-use Rattle.allotment.specs.Rows.{rowAt, rankIn, entryOf, categoryAt}
-use Rattle.allotment.specs.Process.{Seat, isNone, candidateCount, instituteCount}
+use Rattle.allotment.specs.Standing.{standing}
 use Rattle.allotment.specs.Areas.{seatIn}
 use Rattle.allotment.specs.Outcome.{Accepted, answerAfter}
-
--- the seat is of a step that an institute of the round has
-unfoldable pub isStep : Round → Seat → Bool
-isStep r s =
-    within 1 (instituteCount r) (s .institute)
-    && within 1 (length (instituteAt r (s .institute - 1) .steps)) (s .step)
-
--- the place in candidate i's row of the entry that a seat stands for; the row's length where the row has it not
-unfoldable pub seatRank : Round → ℕ → Seat → ℕ
-seatRank r i s =
-    let entry = entryOf (s .institute - 1) (categoryAt r (s .institute - 1) (s .step)) in
-    cond (isStep r s) (rankIn (rowAt r i) entry) (length (rowAt r i))
-
--- where a seat stands for candidate i, 0 best: a listed one by its entry, below every entry none, and below none a seat not in the row
-unfoldable pub standing : Round → ℕ → Seat → ℕ
-standing r i s =
-    let size : ℕ = length (rowAt r i) in
-    cond (isNone s) size (cond (ltb (seatRank r i s) size) (seatRank r i s) (suc size))
 
 -- document 01's "alike in all but one row", that of candidate i: every other record is the same byte for byte, and so are the code and
 -- marks bytes of that candidate's record; its length goes with its row

@@ -15,7 +15,8 @@ use Rattle.allotment.specs.declared.Answer.{Answer}
 use Rattle.allotment.specs.Process.{noSeat, candidateCount, seats}
 use Rattle.allotment.specs.Areas.{seatsIn}
 use Rattle.allotment.specs.Outcome.{outcomeOf, outcome, answerAfter, workAfter, Accepted}
-use Rattle.allotment.specs.Truthful.{standing, Truthful}
+use Rattle.allotment.specs.Standing.{standing}
+use Rattle.allotment.specs.Truthful.{Truthful}
 use Rattle.allotment.specs.Stable.{Stable}
 use Rattle.allotment.specs.Promise.{Promise}
 use Rattle.allotment.proofs.Files.Accepting.{accepted-passes, seat-after, seats-after}

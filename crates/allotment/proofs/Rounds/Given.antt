@@ -15,7 +15,7 @@ use Rattle.round.proofs.Words.{and-fst, and-snd}
 use Rattle.choice.proofs.Offers.{same-self, same-category}
 use Rattle.allotment.specs.Rows.{sameCategory, categoryAt}
 use Rattle.allotment.specs.Process.{Seat, noSeat, candidateCount, instituteCount, madeTo, seatsAfter}
-use Rattle.allotment.specs.Truthful.{isStep}
+use Rattle.allotment.specs.Standing.{isStep}
 use Rattle.allotment.specs.Stable.{given, stepOf}
 use Rattle.allotment.proofs.Market.Tests.{same-test}
 use Rattle.allotment.proofs.Rounds.Numbered.{numberOf}

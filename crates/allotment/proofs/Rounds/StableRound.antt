@@ -16,8 +16,8 @@ use Rattle.round.proofs.Words.{and-fst, and-snd, and-no}
 use Rattle.allotment.specs.Rows.{rowAt, rankIn, entryOf}
 use Rattle.allotment.specs.Offers.{OfferSet, placeOn, stepsOn, stepFor}
 use Rattle.allotment.specs.Process.{noSeat, candidateCount, instituteCount, madeTo, tried, seats}
-use Rattle.allotment.specs.Truthful.{standing}
-use Rattle.allotment.specs.Stable.{given, stepOf, Listed, Same, together, WouldChoose, SomeBelow, Stable}
+use Rattle.allotment.specs.Standing.{standing}
+use Rattle.allotment.specs.Stable.{given, stepOf, OfRows, Same, together, WouldChoose, SomeBelow, Stable}
 use Rattle.allotment.proofs.Market.Tests.{clash, or-case, or-right, some-below}
 use Rattle.allotment.proofs.Market.Laws.{Offers}
 use Rattle.allotment.proofs.Market.Reached.{reached-fits}
@@ -63,7 +63,7 @@ module _ {types : ℕ} {r : Round} (sound : Sound types r) where
         ap (λ (l : List ℕ). getD l (placeOn r j i) 0) (steps-with-seats (given r (seats r) j) given-made (λ k hk c t. t))
         ∙ sym (step-given sound run i j hi hj)
 
-    module _ (set : OfferSet) (listed : Listed r (seats r) j set) where
+    module _ (set : OfferSet) (listed : OfRows r j set) where
       -- an offer of the set ranks below its candidate's seat
       below : ℕ → Category → Bool
       below i c = set i c && ltb (standing r i (getD (seats r) i noSeat)) (rankIn (rowAt r i) (entryOf j c))
@@ -80,7 +80,7 @@ module _ {types : ℕ} {r : Round} (sound : Sound types r) where
       )
 
       set-listed : (i e : ℕ) → setOf i e ≡ true → (i < candidateCount r) × (rowsOf r i .rank e < rowsOf r i .len)
-      unfolding Listed
+      unfolding OfRows
       set-listed i e z =
           let at = listed i (categoryOf (e % 5)) (set-of i e z .1) in
           (at .0, omega (arith, at .1, set-of i e z .0, row-length r i))
@@ -115,7 +115,7 @@ module _ {types : ℕ} {r : Round} (sound : Sound types r) where
           ∙ tried-all (round-market r sound) (tried-final sound .closed) setOf (record { listed = set-listed; above = set-above none }) i (numberOf j c)
           (rw (number-institute j c, eq-eqb j j refl, number-category j c) t)
 
-      would-same : ((i : ℕ) → i < candidateCount r → (c : Category) → below i c ≡ false) → WouldChoose r (seats r) j set → Same r (seats r) set (given r (seats r) j)
+      would-same : ((i : ℕ) → i < candidateCount r → (c : Category) → below i c ≡ false) → WouldChoose r (seats r) j set → Same r set (given r (seats r) j)
       unfolding WouldChoose Same seats
       would-same none would i c hi =
           let steps : stepsOn r j (together r (seats r) j set) ≡ stepsOn r j (madeTo r (tried r) j) =
@@ -127,7 +127,7 @@ module _ {types : ℕ} {r : Round} (sound : Sound types r) where
           ∙ taken-held sound run i j c hi hj
           ∙ sym (given-held sound run i j hi hj c)
 
-      pub set-unblocked : (Same r (seats r) set (given r (seats r) j) → ⊥) → WouldChoose r (seats r) j set → SomeBelow r (seats r) j set
+      pub set-unblocked : (Same r set (given r (seats r) j) → ⊥) → WouldChoose r (seats r) j set → SomeBelow r (seats r) j set
       unfolding SomeBelow below
       set-unblocked other would = go (some-below (5 * candidateCount r) (λ e. below (e / 5) (categoryOf (e % 5))))
         where

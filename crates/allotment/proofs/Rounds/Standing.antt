@@ -15,7 +15,7 @@ use Rattle.round.specs.Places.{instituteAt}
 use Rattle.round.specs.Sound.{Sound}
 use Rattle.allotment.specs.Rows.{rowAt, rankIn, entryOf, categoryAt}
 use Rattle.allotment.specs.Process.{noSeat, instituteCount, madeTo, seatsAfter}
-use Rattle.allotment.specs.Truthful.{isStep, seatRank, standing}
+use Rattle.allotment.specs.Standing.{isStep, seatRank, standing}
 use Rattle.allotment.proofs.Market.Rows as Rows
 use Rattle.allotment.proofs.Market.Reached.{reached-fits}
 use Rattle.allotment.proofs.Rounds.Numbered.{numberOf, rowsOf, rows-rank, row-length}

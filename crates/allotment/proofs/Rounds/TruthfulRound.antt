@@ -18,7 +18,7 @@ use Rattle.choice.proofs.Completion.{completion}
 use Rattle.allotment.specs.Rows.{rowAt, rankIn, entryOf}
 use Rattle.allotment.specs.Offers.{candidateOn, placeOn}
 use Rattle.allotment.specs.Process.{noSeat, candidateCount, instituteCount, madeTo, tried, seats}
-use Rattle.allotment.specs.Truthful.{standing}
+use Rattle.allotment.specs.Standing.{standing}
 use Rattle.allotment.proofs.Market.Tests.{clash}
 use Rattle.allotment.proofs.Market.Laws.{Offers}
 use Rattle.allotment.proofs.Market.Update.{split-at}

@@ -20,7 +20,7 @@ use Rattle.choice.proofs.Chosen.{under-some, choose-length, choose-offered, cho
 use Rattle.allotment.specs.Rows.{rowAt, sameCategory, categoryAt}
 use Rattle.allotment.specs.Offers.{OfferSet, placeOn, stepsOn, stepFor}
 use Rattle.allotment.specs.Process.{Seat, noSeat, isNone, candidateCount, instituteCount, madeTo, seatsAfter, mayOffer}
-use Rattle.allotment.specs.Truthful.{isStep}
+use Rattle.allotment.specs.Standing.{isStep}
 use Rattle.allotment.specs.Stable.{given}
 use Rattle.allotment.specs.Held.{HeldIn}
 use Rattle.allotment.specs.Turns.{stepOffer, offerOf, offersBy, holderBy, takesPart, ChosenAnew}
