@@ -6,7 +6,7 @@ use mathlib.Core.List.{List, [], map}
 use lib.Dec.{eqb, ltb}
 use lib.ListN.{length, getD, set, replicate}
 use Rattle.round.specs.Lists.{tabulate, first, sum}
-use Rattle.round.specs.Round.{Round, Candidate}
+use Rattle.round.specs.Round.{Round}
 use Rattle.allotment.specs.Rows.{rowAt, rankIn, entryOf}
 use Rattle.allotment.specs.Offers.{OfferSet, stepsOn, placeOn}
 
