@@ -20,3 +20,5 @@ pub mod Down
 pub mod Fills
 pub mod Steps
 pub mod Choosing
+pub mod Fewer
+pub mod Gathering

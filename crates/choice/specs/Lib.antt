@@ -5,3 +5,4 @@ pub mod Offers
 pub mod Search
 pub mod Taken
 pub mod Fill
+pub mod Few

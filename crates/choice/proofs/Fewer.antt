@@ -1,0 +1,151 @@
+-- Places without an offer do not matter: the choice among the gathered places with an offer is the choice among all.
+use Prim.Native.Nat.{ℕ, zero, suc, _≤_, _<_}
+use mathlib.Core.Path.{_≡_, refl, sym, _∙_}
+use mathlib.Core.Bool.{Bool, true, false}
+use mathlib.Core.List.{List, [], _∷_}
+use native.Mathlib.Omega.{arith}
+use lib.Dec.{ltb}
+use lib.ListN.{length, getD}
+use borrow.Author.Tests.{ltb-true, ltb-false}
+use Rattle.round.specs.declared.entry.Category.{Category}
+use Rattle.round.specs.Round.{StepRule}
+use Rattle.round.specs.Lists.{count}
+use Rattle.choice.specs.Step.{takenBefore, takenForUse, remaining, takenByMerit, taken}
+use Rattle.choice.specs.Choice.{Progress, considers, positionsAt, takenAt, vacantAt, advance, advanceAll, nothingDone, choose}
+use Rattle.choice.specs.Few.{Gathers}
+use Rattle.choice.proofs.Counting.{test, bit-true}
+use Rattle.choice.proofs.Offers.{Offers}
+use Rattle.choice.proofs.Tabulate.{getD-tabulate, getD-zeros}
+
+-- more places, no fewer of the set
+pub count-more : (X : ℕ → Bool) (a b : ℕ) → a ≤ b → count a X ≤ count b X
+count-more X a zero l = let e : a ≡ 0 = omega arith in rw e (omega arith)
+count-more X a (suc b) l = test (ltb a (suc b)) (λ e. omega (arith, ltb-true, count-more X a b (omega (arith, ltb-true)))) (λ e. let z : a ≡ suc b = omega (arith, ltb-false) in rw z (omega arith))
+
+-- a place of the set has a number below the number of those before n
+pub number-below : (X : ℕ → Bool) (p n : ℕ) → p < n → X p ≡ true → count p X < count n X
+number-below X p n l x = omega (arith, bit-true (X p) x, count-more X (suc p) n (omega arith))
+
+-- X' says of the gathered what X says of the places below n, and nothing else is in X
+pub record Same (G : ℕ → Bool) (n : ℕ) (X X' : ℕ → Bool) : Type 0 where
+  pub inside : (p : ℕ) → p < n → G p ≡ true → X' (count p G) ≡ X p
+  pub outside : (p : ℕ) → p < n → G p ≡ false → X p ≡ false
+
+module _ (G : ℕ → Bool) (n : ℕ) where
+  next-in : (p : ℕ) → G p ≡ true → count (suc p) G ≡ suc (count p G)
+  next-in p g = rw g (omega arith)
+
+  next-out : (p : ℕ) → G p ≡ false → count (suc p) G ≡ count p G
+  next-out p g = rw g (omega arith)
+
+  same-count : (X X' : ℕ → Bool) → Same G n X X' → (p : ℕ) → p ≤ n → count (count p G) X' ≡ count p X
+  same-count X X' s zero l = refl
+  same-count X X' s (suc p) l =
+      test (G p)
+      (λ g. rw (next-in p g, s .inside p (omega arith) g, same-count X X' s p (omega arith)))
+      (λ g. rw (next-out p g, s .outside p (omega arith) g, same-count X X' s p (omega arith)) (omega arith))
+
+  module _ (marks marks' : List ℕ) (whole : length marks ≡ n) (few : length marks' ≡ count n G) (gathers : Gathers G n (λ p. getD marks p 0) marks') (reserved : List ℕ) (X X' : ℕ → Bool) (s : Same G n X X') where
+    same-before : (p : ℕ) → p ≤ n → takenBefore reserved marks' X' (count p G) ≡ takenBefore reserved marks X p
+    unfolding takenBefore
+    same-before zero l = refl
+    same-before (suc p) l =
+        test (G p)
+        (λ g. rw (next-in p g, s .inside p (omega arith) g, gathers p (omega arith) g, same-before p (omega arith)))
+        (λ g. rw (next-out p g, s .outside p (omega arith) g) (same-before p (omega arith)))
+
+    same-use : Same G n (takenForUse reserved marks X) (takenForUse reserved marks' X')
+    unfolding takenForUse
+    same-use = record {
+      inside = λ p l g. rw (s .inside p l g, gathers p l g, same-before p (omega arith));
+      outside = λ p l g. rw (s .outside p l g);
+    }
+
+    same-remaining : Same G n (remaining reserved marks X) (remaining reserved marks' X')
+    unfolding remaining
+    same-remaining = record {
+      inside = λ p l g. rw (s .inside p l g, same-use .inside p l g);
+      outside = λ p l g. rw (s .outside p l g);
+    }
+
+    same-taken : (q : ℕ) → Same G n (taken reserved marks X q) (taken reserved marks' X' q)
+    unfolding taken takenByMerit
+    same-taken q = record {
+      inside = λ p l g.
+          rw (
+            same-use .inside p l g,
+            same-remaining .inside p l g,
+            few,
+            whole,
+            same-count _ _ same-use n (omega arith),
+            same-count _ _ same-remaining p (omega arith),
+          );
+      outside = λ p l g. rw (same-use .outside p l g, same-remaining .outside p l g);
+    }
+
+    same-number : (q : ℕ) → count (length marks') (taken reserved marks' X' q) ≡ count (length marks) (taken reserved marks X q)
+    same-number q = rw (few, whole) (same-count _ _ (same-taken q) n (omega arith))
+
+-- the steps of the gathered are those of their places, and no other place has one
+pub record Alike (G : ℕ → Bool) (n : ℕ) (done done' : Progress) : Type 0 where
+  pub inside : (p : ℕ) → p < n → G p ≡ true → getD (done' .given) (count p G) 0 ≡ getD (done .given) p 0
+  pub outside : (p : ℕ) → p < n → G p ≡ false → getD (done .given) p 0 ≡ 0
+  pub alike : (j : ℕ) → done' .handed j ≡ done .handed j
+
+module _ (G : ℕ → Bool) (n : ℕ) (marks marks' : List ℕ) (whole : length marks ≡ n) (few : length marks' ≡ count n G) (gathers : Gathers G n (λ p. getD marks p 0) marks') (Y Y' : Offers) (offers : (c : Category) → Same G n (λ p. Y p c) (λ p. Y' p c)) where
+  same-considered : (rule : StepRule) (done done' : Progress) → Alike G n done done' → Same G n (considers marks Y rule done) (considers marks' Y' rule done')
+  unfolding considers
+  same-considered rule done done' a = record {
+    inside = λ p l g. rw (offers (rule .category) .inside p l g, a .inside p l g);
+    outside = λ p l g. rw (offers (rule .category) .outside p l g);
+  }
+
+  same-positions : (k : ℕ) (rule : StepRule) (done done' : Progress) → Alike G n done done' → positionsAt marks' Y' k rule done' ≡ positionsAt marks Y k rule done
+  unfolding positionsAt
+  same-positions k rule done done' a = rw (a .alike k)
+
+  same-at : (k : ℕ) (rule : StepRule) (done done' : Progress) → Alike G n done done' → Same G n (takenAt marks Y k rule done) (takenAt marks' Y' k rule done')
+  unfolding takenAt
+  same-at k rule done done' a = rw (same-positions k rule done done' a) (same-taken G n marks marks' whole few gathers (rule .reserved) _ _ (same-considered rule done done' a) _)
+
+  same-vacant : (k : ℕ) (rule : StepRule) (done done' : Progress) → Alike G n done done' → vacantAt marks' Y' k rule done' ≡ vacantAt marks Y k rule done
+  unfolding vacantAt takenAt
+  same-vacant k rule done done' a = rw (same-positions k rule done done' a, same-number G n marks marks' whole few gathers (rule .reserved) _ _ (same-considered rule done done' a) (positionsAt marks Y k rule done))
+
+  same-advance : (k : ℕ) (rule : StepRule) (done done' : Progress) → Alike G n done done' → Alike G n (advance marks Y k rule done) (advance marks' Y' k rule done')
+  unfolding advance
+  same-advance k rule done done' a =
+      let t = same-at k rule done done' a in
+      record {
+        inside = λ p l g.
+            getD-tabulate (length marks') _ (count p G) 0 (omega (arith, few, number-below G p n l g))
+            ∙ rw (t .inside p l g, a .inside p l g) (sym (getD-tabulate (length marks) _ p 0 (omega (arith, whole))));
+        outside = λ p l g. getD-tabulate (length marks) _ p 0 (omega (arith, whole)) ∙ rw (t .outside p l g) (a .outside p l g);
+        alike = λ j. rw (a .alike j, same-vacant k rule done done' a);
+      }
+
+  same-all : (rules : List StepRule) (k : ℕ) (done done' : Progress) → Alike G n done done' → Alike G n (advanceAll marks Y k rules done) (advanceAll marks' Y' k rules done')
+  unfolding advanceAll
+  same-all [] k done done' a = a
+  same-all (rule ∷ rules) k done done' a = same-all rules (suc k) _ _ (same-advance k rule done done' a)
+
+  same-start : Alike G n (nothingDone marks Y) (nothingDone marks' Y')
+  unfolding nothingDone
+  same-start = record {
+    inside = λ p l g. getD-zeros (length marks') (count p G) ∙ sym (getD-zeros (length marks) p);
+    outside = λ p l g. getD-zeros (length marks) p;
+    alike = λ j. refl;
+  }
+
+  same-choice : (rules : List StepRule) → Alike G n (advanceAll marks Y 1 rules (nothingDone marks Y)) (advanceAll marks' Y' 1 rules (nothingDone marks' Y'))
+  same-choice rules = same-all rules 1 _ _ same-start
+
+  -- a place with an offer gets the step that it gets among the gathered
+  pub choose-gathered : (rules : List StepRule) (p : ℕ) → p < n → G p ≡ true → getD (choose marks Y rules) p 0 ≡ getD (choose marks' Y' rules) (count p G) 0
+  unfolding choose
+  choose-gathered rules p l g = sym (same-choice rules .inside p l g)
+
+  -- a place without one gets none
+  pub choose-other : (rules : List StepRule) (p : ℕ) → p < n → G p ≡ false → getD (choose marks Y rules) p 0 ≡ 0
+  unfolding choose
+  choose-other rules p l g = same-choice rules .outside p l g
