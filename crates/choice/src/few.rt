@@ -12,10 +12,10 @@ pub fn no_bytes() -> [u8; 512]
 }
 
 // No place for any number.
-pub fn no_places() -> [usize; 512]
+pub fn no_places() -> [u16; 512]
     ensures { λ r. ⌜ r ≡ replicate 512 0 ⌝ }
 {
-    [0usize; 512]
+    [0u16; 512]
 }
 
 // Writes the marks, the offers and the places of those with an offer, one after the other, and returns their number.
@@ -24,9 +24,9 @@ pub fn gather(
     offers: &[u8],
     few_marks: &mut [u8],
     few_offers: &mut [u8],
-    places: &mut [usize],
+    places: &mut [u16],
 ) -> usize
-    requires { ⌜ (length (now offers) ≡ length (now marks)) × (length (now marks) ≤ length (now «few_marks»)) × (length (now marks) ≤ length (now «few_offers»)) × (length (now marks) ≤ length (now places)) ⌝ }
+    requires { ⌜ (length (now marks) ≤ 512) × (length (now offers) ≡ length (now marks)) × (length (now marks) ≤ length (now «few_marks»)) × (length (now marks) ≤ length (now «few_offers»)) × (length (now marks) ≤ length (now places)) ⌝ }
     ensures { λ r. ⌜ Gathered (now (marks .entry)) (now (offers .entry)) (length (now (marks .entry))) (now («few_marks» .exit)) (now («few_offers» .exit)) (now (places .exit)) r ⌝ }
 {
     let mut k = 0;
@@ -34,7 +34,7 @@ pub fn gather(
         if offers[p] != 0 {
             few_marks[k] = marks[p];
             few_offers[k] = offers[p];
-            places[k] = p;
+            places[k] = p as u16;
             k += 1;
         }
     }
@@ -42,11 +42,11 @@ pub fn gather(
 }
 
 // Puts each value at its place.
-pub fn spread(places: &[usize], values: &[u8], steps: &mut [u8])
+pub fn spread(places: &[u16], values: &[u8], steps: &mut [u8])
     requires { ⌜ (length (now values) ≡ length (now places)) × Apart (now places) (length (now steps)) (length (now places)) ⌝ }
     ensures { λ _. ⌜ Spread (now (places .entry)) (now (values .entry)) (now (steps .entry)) (now (steps .exit)) (length (now (places .entry))) ⌝ }
 {
     for q in 0..places.len() {
-        steps[places[q]] = values[q];
+        steps[places[q] as usize] = values[q];
     }
 }

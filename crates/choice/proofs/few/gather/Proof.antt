@@ -34,6 +34,9 @@ shared-slice-read-few-offers c = search needs
 slice-write-few-offers : tie.Need-slice-write-few-offers Inv-loop μ-loop
 slice-write-few-offers c = search needs
 
+cast-places : tie.Need-cast-places Inv-loop μ-loop
+cast-places c = search needs
+
 mul-places : tie.Need-mul-places Inv-loop μ-loop
 mul-places c = search needs
 
@@ -60,7 +63,7 @@ loop-again c =
       omega arith,
       refl,
       gathered-by (a .marks .now) (a .offers .now) (a .few-marks .now) (a .few-offers .now) (a .places .now) (k .p + 1) (w .3) (w .4) (w .5) (w .6)
-          (one-gathered (a .marks .now) (a .offers .now) (a .few-marks .now) (a .few-offers .now) (a .places .now) (k .few-marks) (k .few-offers) (k .places) (k .k) (k .p) (k .inv .2) (omega (arith, pre .1)) (omega (arith, pre .2)) (omega (arith, pre .3)) (lt-ltb 0 (getD (a .offers .now) (k .p) 0) (omega (arith, w .0 .taken)))),
+          (one-gathered (a .marks .now) (a .offers .now) (a .few-marks .now) (a .few-offers .now) (a .places .now) (k .few-marks) (k .few-offers) (k .places) (k .k) (k .p) (k .inv .2) (omega (arith, pre .2)) (omega (arith, pre .3)) (omega (arith, pre .4)) (lt-ltb 0 (getD (a .offers .now) (k .p) 0) (omega (arith, w .0 .taken)))),
     ))
     (λ w. (
       omega arith,
@@ -96,6 +99,7 @@ gather-spec =
     slice-write-few-marks
     shared-slice-read-few-offers
     slice-write-few-offers
+    cast-places
     mul-places
     slice-write-places
     add-k

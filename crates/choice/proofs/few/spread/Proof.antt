@@ -26,6 +26,9 @@ mul-steps c = search needs
 shared-slice-read-steps-2 : tie.Need-shared-slice-read-steps-2 Inv-loop μ-loop
 shared-slice-read-steps-2 c = search needs
 
+cast-steps : tie.Need-cast-steps Inv-loop μ-loop
+cast-steps c = omega (arith, c .shared-slice-known2 .given (c .before .before .before .loop .q))
+
 slice-write-steps : tie.Need-slice-write-steps Inv-loop μ-loop
 slice-write-steps c = omega (arith, c .before .before .before .loop .inv .2 .sized, c .before .before .before .before .pre .1 .within (c .before .before .before .loop .q) (c .before .before .loop-test .taken))
 
@@ -56,6 +59,7 @@ spread-spec =
     shared-slice-read-steps
     mul-steps
     shared-slice-read-steps-2
+    cast-steps
     slice-write-steps
     add-q
     loop-less
