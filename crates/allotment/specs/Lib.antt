@@ -12,3 +12,4 @@ pub mod Writing
 pub mod Handing
 pub mod Export
 pub mod Turns
+pub mod Tables

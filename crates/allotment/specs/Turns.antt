@@ -2,14 +2,16 @@
 -- that offer. In a table an offer is one number: 0 for none, or one more than the code of its entry's category.
 use Prim.Native.Nat.{ℕ, suc, _-_, _<_}
 use mathlib.Core.Path.{_≡_}
-use mathlib.Core.Bool.{Bool, cond, not, _&&_}
+use mathlib.Core.Bool.{Bool, false, cond, not, _&&_}
 use mathlib.Core.List.{List}
 use lib.Dec.{eqb, ltb}
 use lib.ListN.{length, getD, set}
 use Rattle.round.specs.declared.entry.Entry.{Entry}
 use Rattle.round.specs.Category.{codeOf}
+use Rattle.round.specs.Lists.{count}
 use Rattle.round.specs.Round.{Round}
 use Rattle.round.specs.Places.{candidateAt, instituteAt, entryAt}
+use Rattle.choice.specs.Gathers.{Gathers}
 use Rattle.allotment.specs.Rows.{rowAt}
 use Rattle.allotment.specs.Offers.{OfferSet, candidateOn, placeOn, stepFor}
 use Rattle.allotment.specs.Process.{candidateCount}
@@ -17,6 +19,10 @@ use Rattle.allotment.specs.Process.{candidateCount}
 -- held by no institute, by the table of holders, and with an untried entry
 unfoldable pub mayTry : Round → List ℕ → List ℕ → ℕ → Bool
 mayTry r tried holders i = eqb (getD holders i 0) 0 && ltb (getD tried i 0) (length (rowAt r i))
+
+-- nobody below this number has a turn
+abbrev pub NobodyBelow : Round → List ℕ → List ℕ → ℕ → Type 0
+NobodyBelow r tried holders from = (i : ℕ) → i < from → mayTry r tried holders i ≡ false
 
 -- the offer that a seat at a step stands for: open for step 6
 abbrev pub stepOffer : ℕ → ℕ
@@ -40,27 +46,33 @@ abbrev pub holderBy : ℕ → ℕ → ℕ
 holderBy number step = cond (eqb step 0) 0 number
 
 module _ (r : Round) (j : ℕ) where
-  -- a table has a number of the candidate at each of the first places of institute j's merit list
-  pub record Gathered (value : ℕ → ℕ) (count : ℕ) (table : List ℕ) : Type 0 where
-    pub many : length table ≡ length (instituteAt r j .merit)
-    pub number : (p : ℕ) → p < count → getD table p 0 ≡ value (candidateOn r j p)
+  -- the candidate at a place of institute j's merit list has an offer
+  abbrev pub offersAt : (ℕ → ℕ) → ℕ → Bool
+  offersAt offer p = not (eqb (offer (candidateOn r j p)) 0)
 
-  -- candidate c stands at one of the first places of institute j's merit list and has an offer
-  unfoldable pub takesPart : (ℕ → ℕ) → ℕ → ℕ → Bool
-  takesPart offer count c = ltb (placeOn r j c) count && not (eqb (offer c) 0)
+  -- the k offers at the first n places of institute j's merit list, in its order: who makes each, the marks and the offer
+  pub record Gathered (offer : ℕ → ℕ) (n : ℕ) (who marks offers : List ℕ) (k : ℕ) : Type 0 where
+    pub number : k ≡ count n (offersAt offer)
+    pub who-at : Gathers (offersAt offer) n (candidateOn r j) who
+    pub marks-at : Gathers (offersAt offer) n (λ p. marksOf r (candidateOn r j p)) marks
+    pub offers-at : Gathers (offersAt offer) n (λ p. offer (candidateOn r j p)) offers
+
+  -- candidate c stands on institute j's merit list and has an offer
+  unfoldable pub takesPart : (ℕ → ℕ) → ℕ → Bool
+  takesPart offer c = ltb (placeOn r j c) (length (instituteAt r j .merit)) && not (eqb (offer c) 0)
 
   -- the seats after a choice of institute j: who takes part has the step chosen there, everybody else the seat from before
-  pub record Scattered (offer chosen : ℕ → ℕ) (count : ℕ) (holders₀ steps₀ holders steps : List ℕ) : Type 0 where
+  pub record Reseated (offer chosen : ℕ → ℕ) (holders₀ steps₀ holders steps : List ℕ) : Type 0 where
     pub holders-many : length holders ≡ length holders₀
     pub steps-many : length steps ≡ length steps₀
-    pub holder : (c : ℕ) → c < candidateCount r → getD holders c 0 ≡ cond (takesPart offer count c) (holderBy (suc j) (chosen c)) (getD holders₀ c 0)
-    pub step : (c : ℕ) → c < candidateCount r → getD steps c 0 ≡ cond (takesPart offer count c) (chosen c) (getD steps₀ c 0)
+    pub holder : (c : ℕ) → c < candidateCount r → getD holders c 0 ≡ cond (takesPart offer c) (holderBy (suc j) (chosen c)) (getD holders₀ c 0)
+    pub step : (c : ℕ) → c < candidateCount r → getD steps c 0 ≡ cond (takesPart offer c) (chosen c) (getD steps₀ c 0)
 
   -- institute j has chosen from what it holds and candidate i's new offer
   unfoldable pub ChosenAnew : ℕ → ℕ → List ℕ → List ℕ → List ℕ → List ℕ → Type 0
   ChosenAnew i new holders₀ steps₀ holders steps =
       let offer : ℕ → ℕ = offerOf (suc j) i new holders₀ steps₀ in
-      Scattered offer (stepFor r j (offersBy offer)) (length (instituteAt r j .merit)) holders₀ steps₀ holders steps
+      Reseated offer (stepFor r j (offersBy offer)) holders₀ steps₀ holders steps
 
 -- candidate i has offered the best untried entry, and its institute has chosen
 pub record TurnTaken (r : Round) (i : ℕ) (tried₀ holders₀ steps₀ tried holders steps : List ℕ) : Type 0 where

@@ -1,15 +1,16 @@
-// What an institute chooses from, by the places of its merit list: marks, and the offers that it holds with the new one.
+// The offers that an institute chooses from, in the order of its merit list: who makes each, with what marks, and for which category.
 use round::access::candidate_marks;
+use round::access::merit_length;
 use round::access::merit_place;
 use round::word::wide;
 ghost use mathlib.Core.Path.{_≡_};
-ghost use Prim.Native.Nat.{suc, _<_};
+ghost use Prim.Native.Nat.{suc, _≤_, _<_};
 ghost use lib.ListN.{length};
 ghost use Rattle.round.specs.Records.{headOf};
 ghost use Rattle.round.specs.Reading.{roundOf};
 ghost use Rattle.round.specs.Outcome.{CandidateStarts};
 ghost use Rattle.round.specs.Access.{instituteOf, MeritKnown};
-ghost use Rattle.allotment.specs.Turns.{stepOffer, offerOf, marksOf, Gathered};
+ghost use Rattle.allotment.specs.Turns.{stepOffer, offerOf, Gathered};
 
 // The offer that a seat at a step stands for.
 fn step_offer(step: u8) -> u8
@@ -32,43 +33,41 @@ fn offer_of(holders: &[u8], steps: &[u8], number: usize, i: usize, new: u8, c: u
     step_offer(steps[c])
 }
 
-// The marks of the candidate at each place of institute j's merit list.
-pub fn gather_marks(file: &[u8], candidates: &[usize], merits: &[usize], j: usize, marks: &mut [u8])
-    requires { ⌜ MeritKnown (now file) (now merits) j ⌝ }
-    requires { ⌜ CandidateStarts (now file) (now candidates) ⌝ }
-    requires { ⌜ length (now marks) ≡ length (instituteOf (now file) j .merit) ⌝ }
-    ensures { λ _. ⌜ Gathered (roundOf (now (file .entry))) j (marksOf (roundOf (now (file .entry)))) (length (now (marks .entry))) (now (marks .exit)) ⌝ }
-{
-    let count = marks.len();
-    for p in 0..count {
-        let c = merit_place(file, merits, j, p) - 1;
-        marks[p] = candidate_marks(file, candidates, c);
-    }
-}
-
-// The offer of the candidate at each place of institute j's merit list, where candidate i makes a new one.
-pub fn gather_offers(
+// Lists the offers at the places of institute j's merit list, where candidate i makes a new one, and returns their number.
+pub fn gather(
     file: &[u8],
+    candidates: &[usize],
     merits: &[usize],
     j: usize,
     i: usize,
     new: u8,
     holders: &[u8],
     steps: &[u8],
+    who: &mut [u16],
+    marks: &mut [u8],
     offers: &mut [u8],
-)
+) -> usize
     requires { ⌜ MeritKnown (now file) (now merits) j ⌝ }
+    requires { ⌜ CandidateStarts (now file) (now candidates) ⌝ }
     requires { ⌜ (length (now holders) ≡ headOf (now file) .candidates) × (length (now steps) ≡ headOf (now file) .candidates) ⌝ }
-    requires { ⌜ length (now offers) ≡ length (instituteOf (now file) j .merit) ⌝ }
-    ensures { λ _. ⌜ Gathered (roundOf (now (file .entry))) j
+    requires { ⌜ (512 ≤ length (now who)) × (512 ≤ length (now marks)) × (512 ≤ length (now offers)) ⌝ }
+    ensures { λ k. ⌜ Gathered (roundOf (now (file .entry))) j
         (offerOf (suc j) i new (now (holders .entry)) (now (steps .entry)))
-        (length (now (offers .entry)))
-        (now (offers .exit)) ⌝ }
+        (length (instituteOf (now (file .entry)) j .merit))
+        (now (who .exit)) (now (marks .exit)) (now (offers .exit)) k ⌝ }
 {
-    let count = offers.len();
+    let count = merit_length(file, merits, j);
     let number = j + 1;
+    let mut k = 0;
     for p in 0..count {
         let c = merit_place(file, merits, j, p) - 1;
-        offers[p] = offer_of(holders, steps, number, i, new, c);
+        let offer = offer_of(holders, steps, number, i, new, c);
+        if offer != 0 {
+            who[k] = c as u16;
+            marks[k] = candidate_marks(file, candidates, c);
+            offers[k] = offer;
+            k += 1;
+        }
     }
+    k
 }

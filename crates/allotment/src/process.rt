@@ -16,7 +16,7 @@ ghost use Rattle.round.specs.Outcome.{CandidateStarts};
 ghost use Rattle.round.specs.Access.{CandidateKnown};
 ghost use Rattle.allotment.specs.Process.{candidateCount, offersMade, seats};
 ghost use Rattle.allotment.specs.Held.{AtHand, HeldIn};
-ghost use Rattle.allotment.specs.Turns.{mayTry};
+ghost use Rattle.allotment.specs.Turns.{mayTry, NobodyBelow};
 
 // Whether candidate i, from 0, is held by no institute and has an untried entry.
 fn may_try(file: &[u8], candidates: &[usize], tried: &[u8], holders: &[u8], i: usize) -> bool
@@ -30,15 +30,22 @@ fn may_try(file: &[u8], candidates: &[usize], tried: &[u8], holders: &[u8], i: u
     wide(tried[i]) < row_length(file, candidates, i)
 }
 
-// The lowest-numbered candidate, from 0, who has a turn; the number of candidates where nobody has.
-fn next_candidate(file: &[u8], candidates: &[usize], tried: &[u8], holders: &[u8]) -> usize
+// The lowest-numbered candidate, from 0, who has a turn, where nobody below `from` has; the number of candidates where nobody has.
+fn next_candidate(
+    file: &[u8],
+    candidates: &[usize],
+    tried: &[u8],
+    holders: &[u8],
+    from: usize,
+) -> usize
     requires { ⌜ verdict (now file) ≡ passes ⌝ }
     requires { ⌜ CandidateStarts (now file) (now candidates) ⌝ }
     requires { ⌜ (length (now tried) ≡ headOf (now file) .candidates) × (length (now holders) ≡ headOf (now file) .candidates) ⌝ }
+    requires { ⌜ NobodyBelow (roundOf (now file)) (now tried) (now holders) from ⌝ }
     ensures { λ r. ⌜ r ≡ first (candidateCount (roundOf (now (file .entry)))) (mayTry (roundOf (now (file .entry))) (now (tried .entry)) (now (holders .entry))) ⌝ }
 {
     let count = tried.len();
-    for i in 0..count {
+    for i in from..count {
         if may_try(file, candidates, tried, holders, i) {
             return i;
         }
@@ -65,12 +72,13 @@ fn take_turns(
 {
     let n = h.candidates;
     let mut count: usize = 0;
+    let mut from: usize = 0;
     loop {
-        let i = next_candidate(file, candidates, tried, holders);
+        let i = next_candidate(file, candidates, tried, holders, from);
         if n <= i {
             return count;
         }
-        turn(file, h, candidates, merits, i, tried, holders, steps);
+        from = turn(file, h, candidates, merits, i, tried, holders, steps);
         count += 1;
     }
 }

@@ -10,6 +10,13 @@ pub fn zeros() -> [u8; 512]
     [0; 512]
 }
 
+// A list with room for every candidate.
+pub fn nobody() -> [u16; 512]
+    ensures { λ r. ⌜ r ≡ replicate 512 0 ⌝ }
+{
+    [0u16; 512]
+}
+
 // Makes each byte 0.
 pub fn clear(table: &mut [u8])
     ensures { λ _. ⌜ now (table .exit) ≡ replicate (length (now (table .entry))) 0 ⌝ }

@@ -12,7 +12,7 @@ use Rattle.round.specs.Round.{StepRule}
 use Rattle.round.specs.Lists.{count}
 use Rattle.choice.specs.Step.{takenBefore, takenForUse, remaining, takenByMerit, taken}
 use Rattle.choice.specs.Choice.{Progress, considers, positionsAt, takenAt, vacantAt, advance, advanceAll, nothingDone, choose}
-use Rattle.choice.specs.Few.{Gathers}
+use Rattle.choice.specs.Gathers.{Gathers}
 use Rattle.choice.proofs.Counting.{test, bit-true}
 use Rattle.choice.proofs.Offers.{Offers}
 use Rattle.choice.proofs.Tabulate.{getD-tabulate, getD-zeros}

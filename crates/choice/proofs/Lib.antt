@@ -21,4 +21,3 @@ pub mod Fills
 pub mod Steps
 pub mod Choosing
 pub mod Fewer
-pub mod Gathering

@@ -5,4 +5,4 @@ pub mod Offers
 pub mod Search
 pub mod Taken
 pub mod Fill
-pub mod Few
+pub mod Gathers

@@ -1,15 +1,10 @@
 // One institute's choice: steps 1 to 5 in order, then step 6 under policy 1.
-pub mod few;
 pub mod fill;
 pub mod placing;
 pub mod positions;
 pub mod step;
 pub mod take;
 
-use few::gather;
-use few::no_bytes;
-use few::no_places;
-use few::spread;
 use positions::reserved_of;
 use round::entry::Category;
 use round::entry::code_of;
@@ -79,8 +74,8 @@ fn dereserved_step(types: usize, handed: usize, marks: &[u8], offers: &[u8], ste
     step(&reserved[..types], handed, 1, 6, marks, offers, steps);
 }
 
-// Does all steps, each over all places.
-fn choose_all(
+// The step at which each place is taken, 0 for none, from the institute's body, the marks and the offers at the places.
+pub fn choose(
     body: &[u8],
     types: usize,
     policy: usize,
@@ -100,33 +95,4 @@ fn choose_all(
     if policy == 1 {
         dereserved_step(types, vacant, marks, offers, steps);
     }
-}
-
-// The step at which each place is taken, 0 for none, from the institute's body, the marks and the offers at the places.
-pub fn choose(
-    body: &[u8],
-    types: usize,
-    policy: usize,
-    marks: &[u8],
-    offers: &[u8],
-    steps: &mut [u8],
-)
-    requires { ⌜ (types ≤ 8) × (length (now body) ≡ 10 + 10 * types) × (length (now marks) ≤ 512) × (length (now offers) ≡ length (now marks)) × (length (now steps) ≡ length (now marks)) ⌝ }
-    ensures { λ _. ⌜ now (steps .exit) ≡ Choice.choose (now (marks .entry)) (offeredBy (now (offers .entry))) (stepsIn types policy (now (body .entry))) ⌝ }
-{
-    let mut few_marks = no_bytes();
-    let mut few_offers = no_bytes();
-    let mut places = no_places();
-    let k = gather(marks, offers, &mut few_marks, &mut few_offers, &mut places);
-    let mut few_steps = no_bytes();
-    choose_all(
-        body,
-        types,
-        policy,
-        &few_marks[..k],
-        &few_offers[..k],
-        &mut few_steps[..k],
-    );
-    clear(steps);
-    spread(&places[..k], &few_steps[..k], steps);
 }

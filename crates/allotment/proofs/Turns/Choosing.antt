@@ -1,35 +1,41 @@
--- The choice from what was gathered is the institute's choice from those offers, and what is put into the tables of seats is that choice.
+-- The choice among the listed offers is the institute's choice from those offers, and what is put into the tables of seats is that choice.
+use Prim.Native.Nat.{ℕ, zero, suc, _+_, _-_, _≤_, _<_}
 use mathlib.Core.Path.{_≡_, refl, sym, _∙_, ap, subst}
-use mathlib.Core.Bool.{Bool, true, false, cond, not, _&&_}
+use mathlib.Core.Bool.{Bool, true, false, cond, not}
 use mathlib.Core.Logic.{_≢_}
 use mathlib.Core.List.{List, [], _∷_, map}
-use Prim.Native.Nat.{ℕ, zero, suc, _+_, _-_, _≤_, _<_}
 use native.Mathlib.Omega.{arith}
-use native.Mathlib.Decide.{decLt}
 use native.Mathlib.Numerals.{add-one}
 use lib.Dec.{eqb, ltb}
-use lib.ListN.{length, getD, set, length-map}
-use lib.Seq.{ext-getD}
-use borrow.Author.Tests.{le-ltb}
+use lib.ListN.{length, getD, set, take, length-map}
+use lib.Seq.{length-take-le}
+use borrow.Author.Tests.{ltb-true, lt-ltb, ne-eqb}
 use Rattle.round.specs.declared.entry.Category.{Category}
 use Rattle.round.specs.declared.entry.Entry.{Entry}
 use Rattle.round.specs.declared.head.Head.{Head as CodeHead}
 use Rattle.round.specs.Category.{codeOf}
+use Rattle.round.specs.Lists.{count}
 use Rattle.round.specs.Records.{headOf, bodyOf, instituteRecord}
 use Rattle.round.specs.Round.{StepRule, Institute, Round}
 use Rattle.round.specs.Reading.{stepIn, dereserved, stepsIn, instituteFrom, roundOf}
 use Rattle.round.specs.Places.{candidateAt, instituteAt, entryAt, noStep}
+use Rattle.round.specs.Sound.{SoundInstitute}
 use Rattle.round.specs.Access.{BodyRead}
+use Rattle.round.proofs.Words.{and-fst, and-snd}
 use Rattle.round.proofs.Sound.{institute-at, length-institutes}
 use Rattle.choice.specs.Choice.{choose}
 use Rattle.choice.specs.Offers.{offeredBy}
-use Rattle.choice.proofs.Below.{choose-below}
+use Rattle.choice.specs.Gathers.{Gathers}
+use Rattle.choice.proofs.Counting.{test}
+use Rattle.choice.proofs.Fewer.{Same, number-below, choose-gathered}
 use Rattle.allotment.specs.Offers.{candidateOn, placeOn, stepsOn, stepFor}
-use Rattle.allotment.specs.Turns.{stepOffer, offerOf, marksOf, offersBy, holderBy, takesPart, Gathered, Scattered, ChosenAnew, TurnTaken}
-use Rattle.allotment.proofs.Rounds.Places.{meritLength, candidate-at}
+use Rattle.allotment.specs.Turns.{stepOffer, offerOf, marksOf, offersBy, holderBy, offersAt, takesPart, Gathered, Reseated, ChosenAnew, TurnTaken}
+use Rattle.allotment.specs.Tables.{Apart, Scattered, LeftFrom, KeptBelow}
+use Rattle.allotment.proofs.Market.Tests.{clash}
+use Rattle.allotment.proofs.Rounds.Places.{meritLength, candidate-at, candidate-below, place-of}
 use Rattle.allotment.proofs.Rounds.Completed.{marksOn, atPlaces}
 use Rattle.allotment.proofs.Turns.NextSeats.{Coded}
-use Rattle.allotment.proofs.Turns.Scatters.{offerAt, chosenAt, Seating}
+use Rattle.allotment.proofs.Turns.Gathers.{count-most, gathers-front, place-at}
 
 -- steps 1 to 5 are those of codes 0 to 4, and step 6 is open
 coded-steps : (types policy : ℕ) (body : List ℕ) (k : ℕ) → k ≢ 0 → k ≤ length (stepsIn types policy body)
@@ -66,68 +72,140 @@ getD-map-in f [] p l = absurd (omega arith)
 getD-map-in f (x ∷ xs) zero l = refl
 getD-map-in f (x ∷ xs) (suc p) l = getD-map-in f xs p (omega arith)
 
-module _ (r : Round) (j : ℕ) where
-  marks-are : {count : ℕ} {marks : List ℕ} → Gathered r j (marksOf r) count marks → count ≡ meritLength r j → marks ≡ marksOn r j
+-- whoever has a step has a holder
+holder-kept : {number step : ℕ} → number ≢ 0 → step ≢ 0 → holderBy number step ≢ 0
+holder-kept {number} {step} n s = rw (ne-eqb step 0 s) n
+
+-- k offers are listed: who makes each, the marks and the offer
+module _ (r : Round) (j : ℕ) {n types : ℕ} (sound : SoundInstitute n types (instituteAt r j)) (offer : ℕ → ℕ) {who marks offers : List ℕ} {k : ℕ}
+    (g : Gathered r j offer (meritLength r j) who marks offers k) where
+  abbrev X : ℕ → Bool
+  X = offersAt r j offer
+
+  abbrev L : ℕ
+  L = meritLength r j
+
+  pub listed-most : k ≤ L
+  listed-most = omega (arith, g .number, count-most X L)
+
+  who-front : Gathers X L (candidateOn r j) (take k who)
+  who-front = gathers-front X L (candidateOn r j) who k (g .number) (g .who-at)
+
+  -- a candidate of the list stands at a place with an offer, whose number is that of the candidate
+  listed : (q : ℕ) → q < k → (p : ℕ) × (p < L) × (X p ≡ true) × (count p X ≡ q) × (getD (take k who) q 0 ≡ candidateOn r j p)
+  listed q l =
+      let (p, m, x, at) = place-at X L q (omega (arith, g .number)) in
+      (p, m, x, at, ap (λ (q : ℕ). getD (take k who) q 0) (sym at) ∙ who-front p m x)
+
+  pub listed-apart : {m : ℕ} → n ≡ m → Apart (take k who) m k
+  listed-apart e = record {
+    within = λ q l. let (p, m, x, at, is) = listed q l in omega (arith, is, candidate-below r j sound p m);
+    once = λ q q' l m same.
+        let (p, b, x, at, is) = listed q l in
+        let (p', b', x', at', is') = listed q' (omega arith) in
+        let places : p' ≡ p = sym (place-of r j sound p' b') ∙ ap (placeOn r j) (sym is' ∙ same ∙ is) ∙ place-of r j sound p b in
+        omega (arith, at, at', ap (λ (p : ℕ). count p X) places);
+  }
+
+  offers-same : (c : Category) → Same X L (λ p. atPlaces r j (offersBy offer) p c) (λ p. offeredBy (take k offers) p c)
+  unfolding offersBy
+  offers-same c = record {
+    inside = λ p l x. ap (λ o. eqb o (suc (codeOf c))) (gathers-front X L _ offers k (g .number) (g .offers-at) p l x);
+    outside = λ p l x. ne-eqb (offer (candidateOn r j p)) (suc (codeOf c)) (λ e. clash (ap not (ne-eqb (offer (candidateOn r j p)) 0 (λ z. omega arith))) x);
+  }
+
+  marks-front : Gathers X L (λ p. getD (marksOn r j) p 0) (take k marks)
   unfolding marksOf
-  marks-are {count} {marks} g full =
-      let many : length (marksOn r j) ≡ meritLength r j = length-map (instituteAt r j .merit) _ in
-      ext-getD 0 marks (marksOn r j) (g .many ∙ sym many)
-      (λ p l.
-      g .number p (omega (arith, g .many))
-      ∙ sym (getD-map-in (λ number. candidateAt r (number - 1) .marks) (instituteAt r j .merit) p (omega (arith, g .many))))
+  marks-front p l x =
+      gathers-front X L _ marks k (g .number) (g .marks-at) p l x
+      ∙ sym (getD-map-in (λ number. candidateAt r (number - 1) .marks) (instituteAt r j .merit) p l)
 
-  module _ (offer : ℕ → ℕ) {count : ℕ} {offers : List ℕ} (g : Gathered r j offer count offers) (full : count ≡ meritLength r j) where
-    offers-are : (p : ℕ) → p < meritLength r j → (c : Category) → offeredBy offers p c ≡ offersBy offer (candidateOn r j p) c
-    unfolding offersBy
-    offers-are p l c = ap (λ x. eqb x (suc (codeOf c))) (g .number p (omega arith))
-
-    pub steps-are : {marks chosen : List ℕ} {rules : List StepRule} → marks ≡ marksOn r j → rules ≡ instituteAt r j .steps
-        → chosen ≡ choose marks (offeredBy offers) rules → chosen ≡ stepsOn r j (offersBy offer)
+  -- what is chosen among the listed is what is chosen among all
+  module _ {found : List ℕ} {rules : List StepRule} (fits : k ≤ length marks) (ec : found ≡ choose (take k marks) (offeredBy (take k offers)) rules)
+      (er : rules ≡ instituteAt r j .steps) where
+    found-at : (p : ℕ) → p < L → X p ≡ true → getD found (count p X) 0 ≡ getD (stepsOn r j (offersBy offer)) p 0
     unfolding stepsOn
-    steps-are {marks} {chosen} {rules} em er ec =
-        let many : length (marksOn r j) ≡ meritLength r j = length-map (instituteAt r j .merit) _ in
-        ec
-        ∙ ap (λ (m : List ℕ). choose m (offeredBy offers) rules) em
-        ∙ ap (λ (s : List StepRule). choose (marksOn r j) (offeredBy offers) s) er
-        ∙ choose-below (marksOn r j) (offeredBy offers) (atPlaces r j (offersBy offer)) (λ p l c. offers-are p (omega arith) c) (instituteAt r j .steps)
+    found-at p l x =
+        ap (λ (t : List ℕ). getD t (count p X) 0) ec
+        ∙ sym (choose-gathered X L (marksOn r j) (take k marks) (length-map (instituteAt r j .merit) _) (length-take-le k marks fits ∙ g .number) marks-front
+        (atPlaces r j (offersBy offer)) (offeredBy (take k offers)) offers-same rules p l x)
+        ∙ ap (λ (s : List StepRule). getD (choose (marksOn r j) (atPlaces r j (offersBy offer)) s) p 0) er
 
-    part-is : (c : ℕ) → takesPart r j (offerAt r j offers offers) (meritLength r j) c ≡ takesPart r j offer (meritLength r j) c
-    unfolding takesPart
-    part-is c = elim (decLt (placeOn r j c) (meritLength r j)) [
-      | yes l ↦ ap (λ x. ltb (placeOn r j c) (meritLength r j) && not (eqb x 0)) (g .number (placeOn r j c) (omega arith) ∙ ap offer (candidate-at r j c l))
-      | no l ↦ rw (le-ltb (placeOn r j c) (meritLength r j) (omega arith))
-    ]
+  -- whoever takes part stands at a place with an offer
+  part-at : (c : ℕ) → takesPart r j offer c ≡ true → (placeOn r j c < L) × (X (placeOn r j c) ≡ true) × (getD (take k who) (count (placeOn r j c) X) 0 ≡ c)
+  unfolding takesPart
+  part-at c t =
+      let l : placeOn r j c < L = ltb-true _ _ (and-fst (ltb (placeOn r j c) L) _ t) in
+      let here : candidateOn r j (placeOn r j c) ≡ c = candidate-at r j c l in
+      let x : X (placeOn r j c) ≡ true = ap (λ b. not (eqb (offer b) 0)) here ∙ and-snd (ltb (placeOn r j c) L) _ t in
+      (l, x, who-front (placeOn r j c) l x ∙ here)
 
-    pub seats-are : {chosen holders₀ steps₀ holders steps : List ℕ} → chosen ≡ stepsOn r j (offersBy offer)
-        → Seating r j offers chosen (meritLength r j) holders₀ steps₀ holders steps
-        → Scattered r j offer (stepFor r j (offersBy offer)) (meritLength r j) holders₀ steps₀ holders steps
+  part-number : (c : ℕ) → takesPart r j offer c ≡ true → count (placeOn r j c) X < k
+  part-number c t = let (l, x, is) = part-at c t in omega (arith, g .number, number-below X (placeOn r j c) L l x)
+
+  -- and everybody on the list takes part
+  listed-part : (q : ℕ) → q < k → takesPart r j offer (getD (take k who) q 0) ≡ true
+  unfolding takesPart
+  listed-part q l =
+      let (p, m, x, at, is) = listed q l in
+      let place : placeOn r j (getD (take k who) q 0) ≡ p = ap (placeOn r j) is ∙ place-of r j sound p m in
+      rw (lt-ltb (placeOn r j (getD (take k who) q 0)) L (omega arith), is) x
+
+  -- a table after values were put into it at the listed candidates
+  seat-at : {value : ℕ → ℕ} {before after : List ℕ} → Scattered (take k who) value k before after
+      → (c : ℕ) → getD after c 0 ≡ cond (takesPart r j offer c) (value (count (placeOn r j c) X)) (getD before c 0)
+  seat-at {value} {before} {after} s c =
+      test (takesPart r j offer c)
+      (λ t.
+      let (l, x, is) = part-at c t in
+      rw t (ap (λ (b : ℕ). getD after b 0) (sym is) ∙ s .at (count (placeOn r j c) X) (part-number c t)))
+      (λ t. rw t (s .off c (λ q m e. clash (ap (takesPart r j offer) (sym e) ∙ listed-part q m) t)))
+
+  module _ (found : List ℕ) {holders₀ holders : List ℕ} {number : ℕ} (called : number ≡ suc j)
+      (h : Scattered (take k who) (λ q. holderBy number (getD found q 0)) k holders₀ holders) where
+    -- nobody below the lowest number of those left has lost a seat
+    pub kept-below : {least : ℕ} → LeftFrom (take k who) found k least → KeptBelow least holders₀ holders
+    kept-below {least} left c l had =
+        test (takesPart r j offer c)
+        (λ t.
+        let (m, x, is) = part-at c t in
+        let step : getD found (count (placeOn r j c) X) 0 ≢ 0 = λ z. omega (arith, left (count (placeOn r j c) X) (part-number c t) z, is) in
+        rw (seat-at h c, t) (holder-kept (λ z. omega arith) step))
+        (λ t. rw (seat-at h c, t) had)
+
+    pub reseated : {steps₀ steps : List ℕ} {rules : List StepRule} → k ≤ length marks → found ≡ choose (take k marks) (offeredBy (take k offers)) rules
+        → rules ≡ instituteAt r j .steps → Scattered (take k who) (λ q. getD found q 0) k steps₀ steps
+        → Reseated r j offer (stepFor r j (offersBy offer)) holders₀ steps₀ holders steps
     unfolding stepFor
-    seats-are {chosen} {holders₀} {steps₀} e s = record {
-      holders-many = s .holders-many;
-      steps-many = s .steps-many;
-      holder = λ c l.
-          s .holder c l
-          ∙ ap (λ b. cond b (holderBy (suc j) (chosenAt r j offers chosen c)) (getD holders₀ c 0)) (part-is c)
-          ∙ ap (λ (t : List ℕ). cond (takesPart r j offer (meritLength r j) c) (holderBy (suc j) (getD t (placeOn r j c) 0)) (getD holders₀ c 0)) e;
-      step = λ c l.
-          s .step c l
-          ∙ ap (λ b. cond b (chosenAt r j offers chosen c) (getD steps₀ c 0)) (part-is c)
-          ∙ ap (λ (t : List ℕ). cond (takesPart r j offer (meritLength r j) c) (getD t (placeOn r j c) 0) (getD steps₀ c 0)) e;
+    reseated {steps₀} {steps} {rules} fits ec er s = record {
+      holders-many = h .many;
+      steps-many = s .many;
+      holder = λ c l. seat-at h c ∙ test (takesPart r j offer c) (λ t. rw (t, called, step-at c t)) (λ t. rw t);
+      step = λ c l. seat-at s c ∙ test (takesPart r j offer c) (λ t. rw (t, step-at c t)) (λ t. rw t);
     }
+      where
+        step-at : (c : ℕ) → takesPart r j offer c ≡ true → getD found (count (placeOn r j c) X) 0 ≡ getD (stepsOn r j (offersBy offer)) (placeOn r j c) 0
+        step-at c t = let (l, x, is) = part-at c t in found-at fits ec er (placeOn r j c) l x
 
--- gathered, chosen and put into the tables
-pub all-chosen : (file : List ℕ) (h : CodeHead) (j i new : ℕ) {holders₀ steps₀ holders steps marks offers chosen body : List ℕ} {few many : ℕ}
-    → Gathered (roundOf file) j (marksOf (roundOf file)) few marks → few ≡ meritLength (roundOf file) j
-    → Gathered (roundOf file) j (offerOf (suc j) i new holders₀ steps₀) many offers → many ≡ meritLength (roundOf file) j
-    → BodyRead file h j body
-    → chosen ≡ choose marks (offeredBy offers) (stepsIn (h .types) (h .policy) body)
-    → Seating (roundOf file) j offers chosen (length offers) holders₀ steps₀ holders steps
-    → ChosenAnew (roundOf file) j i new holders₀ steps₀ holders steps
+-- listed, chosen and put into the tables
+pub all-chosen : (file : List ℕ) (h : CodeHead) (j i new : ℕ) {n types : ℕ} → SoundInstitute n types (instituteAt (roundOf file) j)
+    → (holders₀ steps₀ : List ℕ) {holders steps : List ℕ} (who marks offers front : List ℕ) {found body : List ℕ} (k : ℕ) {number : ℕ} (least : ℕ)
+    → Gathered (roundOf file) j (offerOf (suc j) i new holders₀ steps₀) (meritLength (roundOf file) j) who marks offers k
+    → k ≤ length who → k ≤ length marks → BodyRead file h j body
+    → found ≡ choose (take k marks) (offeredBy (take k offers)) (stepsIn (h .types) (h .policy) body) → front ≡ found → number ≡ suc j
+    → Scattered (take k who) (λ q. holderBy number (getD front q 0)) (length (take k who)) holders₀ holders
+    → Scattered (take k who) (λ q. getD front q 0) (length (take k who)) steps₀ steps
+    → LeftFrom (take k who) front (length (take k who)) least
+    → ChosenAnew (roundOf file) j i new holders₀ steps₀ holders steps × KeptBelow least holders₀ holders
 unfolding ChosenAnew
-all-chosen file h j i new {holders₀} {steps₀} {holders} {steps} {marks} {offers} {chosen} gm em go eo body ec s =
+all-chosen file h j i new sound holders₀ steps₀ {holders} {steps} who marks offers front {found} {body} k {number} least g fits fit read ec ef called hs ss left =
     let r : Round = roundOf file in
     let offer : ℕ → ℕ = offerOf (suc j) i new holders₀ steps₀ in
-    seats-are r j offer go eo (steps-are r j offer go eo (marks-are r j gm em) (body .steps-of) ec) (rw (go .many) at s)
+    let long : length (take k who) ≡ k = length-take-le k who fits in
+    let hs' : Scattered (take k who) (λ q. holderBy number (getD front q 0)) k holders₀ holders = rw long at hs in
+    let ss' : Scattered (take k who) (λ q. getD front q 0) k steps₀ steps = rw long at ss in
+    let left' : LeftFrom (take k who) front k least = rw long at left in
+    (reseated r j sound offer g front called hs' fit (ef ∙ ec) (read .steps-of) ss', kept-below r j sound offer g front called hs' left')
 
 -- an entry was read and offered
 pub turn-taken : (r : Round) (i : ℕ) {state₀ holders₀ steps₀ state holders steps : List ℕ} {entry : Entry} {k code : ℕ}

@@ -1,25 +1,27 @@
 -- The process as it goes: turns have led to what is tried, the tables hold its seats, and the rest of the turns lead to the end.
+use Prim.Native.Nat.{ℕ, zero, suc, _+_, _*_, _-_, _≤_, _<_}
 use mathlib.Core.Path.{_≡_, refl, sym, _∙_, ap, subst}
 use mathlib.Core.Bool.{Bool, true, false, cond, _&&_}
 use mathlib.Core.Logic.{_≢_, _⊎_, inl, inr}
 use mathlib.Core.List.{List}
-use Prim.Native.Nat.{ℕ, zero, suc, _+_, _*_, _-_, _≤_, _<_}
 use native.Mathlib.Omega.{arith}
 use native.Mathlib.Numerals.{add-one}
-use native.Mathlib.Decide.{decLt}
+use native.Mathlib.Decide.{decLt, ℕ-discrete}
 use lib.Dec.{eqb, ltb}
 use lib.ListN.{length, getD, set, replicate, length-replicate, getD-replicate}
-use borrow.Author.Tests.{ltb-true, lt-ltb, le-ltb, eq-eqb, ne-eqb}
+use lib.Seq.{getD-set-other}
+use borrow.Author.Tests.{ltb-true, lt-ltb, le-ltb, eqb-true, eq-eqb, ne-eqb}
 use Rattle.round.specs.Lists as Lists
 use Rattle.round.specs.Lists.{first}
 use Rattle.round.specs.Round.{Round}
 use Rattle.round.specs.Sound.{Sound}
-use Rattle.round.proofs.Words.{and-snd}
+use Rattle.round.proofs.Words.{and-fst, and-snd}
 use Rattle.allotment.specs.Rows.{rowAt, rankIn, entryOf}
 use Rattle.allotment.specs.Process.{Seat, noSeat, isNone, candidateCount, madeTo, seatsAfter, mayOffer, turn, turns, entryTotal, tried, offersMade, seats}
 use Rattle.allotment.specs.Held.{HeldIn}
-use Rattle.allotment.specs.Turns.{mayTry, TurnTaken}
-use Rattle.allotment.proofs.Market.Tests.{clash}
+use Rattle.allotment.specs.Turns.{mayTry, NobodyBelow, TurnTaken}
+use Rattle.allotment.specs.Tables.{KeptBelow}
+use Rattle.allotment.proofs.Market.Tests.{clash, is-false}
 use Rattle.allotment.proofs.Market.Sums.{sum, sum-le}
 use Rattle.allotment.proofs.Rounds.Numbered.{rowsOf, row-length}
 use Rattle.allotment.proofs.Rounds.First.{first-within, first-passes, first-before, first-least, first-none}
@@ -192,6 +194,23 @@ module _ {types : ℕ} {r : Round} (sound : Sound types r) where
         where
           at : newEntry r state i .institute ≡ suc (newEntry r state i .institute - 1)
           at = omega (arith, sound .candidate i l .entry-from (getD state i 0) (going-more e l))
+
+    -- nobody below whoever had the turn, and below whoever lost a seat in it, has the next
+    pub going-low : {i : ℕ} → i ≡ first (candidateCount r) (mayTry r state holders) → {from : ℕ} → from ≤ i → {state' holders' steps' : List ℕ}
+        → TurnTaken r i state holders steps state' holders' steps' → KeptBelow from holders holders' → NobodyBelow r state' holders' from
+    unfolding mayTry
+    going-low {i} e {from} l {state'} {holders'} t kept c below =
+        let same : getD state' c 0 ≡ getD state c 0 = ap (λ (s : List ℕ). getD s c 0) (t .one-more) ∙ getD-set-other state i c _ 0 (λ z. omega arith) in
+        let before : mayTry r state holders c ≡ false = first-before (candidateCount r) (mayTry r state holders) c (omega arith) in
+        is-false _
+        (λ now.
+        let free : getD holders' c 0 ≡ 0 = eqb-true _ 0 (and-fst (eqb (getD holders' c 0) 0) _ now) in
+        let untried : ltb (getD state c 0) (length (rowAt r c)) ≡ true =
+        ap (λ k. ltb k (length (rowAt r c))) (sym same) ∙ and-snd (eqb (getD holders' c 0) 0) _ now in
+        elim (ℕ-discrete (getD holders c 0) 0) [
+          | yes z ↦ clash (rw (eq-eqb (getD holders c 0) 0 z) untried) before
+          | no d ↦ kept c below d free
+        ])
 
     -- nobody has a turn: the end
     pub going-done : {i : ℕ} → i ≡ first (candidateCount r) (mayTry r state holders) → candidateCount r ≤ i

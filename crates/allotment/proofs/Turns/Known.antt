@@ -26,6 +26,9 @@ module _ {file merits : List ℕ} {j : ℕ} (known : MeritKnown file merits j) w
   pub institute-few : j < 32
   institute-few = omega (arith, length-institutes file, known .below, sound file (known .accepted) .institutes-most)
 
+  pub candidates-few : headOf file .candidates ≤ 512
+  candidates-few = omega (arith, length-candidates file, sound file (known .accepted) .candidates-most)
+
   pub merit-few : length (instituteAt (roundOf file) j .merit) ≤ 512
   merit-few = omega (arith, merit-short (roundOf file) j institute-sound, sound file (known .accepted) .candidates-most)
 

@@ -230,16 +230,16 @@ module _ {types : ℕ} {r : Round} (sound : Sound types r) (coded : Coded r) {st
         go (inl s) = absurd (not-here (s .institute) (s .inside) (s .number) (λ e. s .number (ap (λ q. stepIn r (advanced state i) q c) e ∙ step-next c ∙ none)))
         go (inr s) = s .seat
 
-    listed-part : (c : ℕ) → placeOn r j c < meritLength r j → offer c ≢ 0 → takesPart r j offer (meritLength r j) c ≡ true
+    listed-part : (c : ℕ) → placeOn r j c < meritLength r j → offer c ≢ 0 → takesPart r j offer c ≡ true
     unfolding takesPart
     listed-part c l d = rw (lt-ltb (placeOn r j c) (meritLength r j) l, ne-eqb (offer c) 0 d)
 
-    part-offers : (c : ℕ) → takesPart r j offer (meritLength r j) c ≡ true → offer c ≢ 0
+    part-offers : (c : ℕ) → takesPart r j offer c ≡ true → offer c ≢ 0
     unfolding takesPart
     part-offers c t = eqb-false (offer c) 0 (not-true (eqb (offer c) 0) (and-snd (ltb (placeOn r j c) (meritLength r j)) _ t))
 
     -- who takes no part had no step of the institute, and has none
-    no-step-before : (c : ℕ) → c < candidateCount r → takesPart r j offer (meritLength r j) c ≡ false → stepIn r state j c ≡ 0
+    no-step-before : (c : ℕ) → c < candidateCount r → takesPart r j offer c ≡ false → stepIn r state j c ≡ 0
     no-step-before c hc out = elim (ℕ-discrete (stepIn r state j c) 0) [
       | yes e ↦ e
       | no n ↦ clash (listed-part c (step-offered r j (madeTo r state j) c n .0) (offers n)) out
@@ -259,7 +259,7 @@ module _ {types : ℕ} {r : Round} (sound : Sound types r) (coded : Coded r) {st
             ∙ z in
             omega arith
 
-    no-step-after : (c : ℕ) → takesPart r j offer (meritLength r j) c ≡ false → stepIn r (advanced state i) j c ≡ 0
+    no-step-after : (c : ℕ) → takesPart r j offer c ≡ false → stepIn r (advanced state i) j c ≡ 0
     unfolding offersBy
     no-step-after c out = elim (ℕ-discrete (chosen c) 0) [
       | yes e ↦ step-next c ∙ e
@@ -268,7 +268,7 @@ module _ {types : ℕ} {r : Round} (sound : Sound types r) (coded : Coded r) {st
           clash (listed-part c (had .0) (λ z. let y : suc (codeOf (had .1 .0)) ≡ 0 = sym (eqb-true (offer c) _ (had .1 .1)) ∙ z in omega arith)) out
     ]
 
-    same-seat : (c : ℕ) → c < candidateCount r → takesPart r j offer (meritLength r j) c ≡ false
+    same-seat : (c : ℕ) → c < candidateCount r → takesPart r j offer c ≡ false
         → getD (seatsAfter r (advanced state i)) c noSeat ≡ seat c
     same-seat c hc out = seat-same sound run next c hc (λ q hq. elim (ℕ-discrete q j) [
       | yes e ↦ rw e (no-step-after c out ∙ sym (no-step-before c hc out))
@@ -285,9 +285,9 @@ module _ {types : ℕ} {r : Round} (sound : Sound types r) (coded : Coded r) {st
     }
       where
         seat-next : (c : ℕ) → c < candidateCount r → getD (seatsAfter r (advanced state i)) c noSeat ≡ record { institute = getD holders' c 0; step = getD steps' c 0 }
-        seat-next c hc = go (takesPart r j offer (meritLength r j) c) refl
+        seat-next c hc = go (takesPart r j offer c) refl
           where
-            go : (b : Bool) → takesPart r j offer (meritLength r j) c ≡ b
+            go : (b : Bool) → takesPart r j offer c ≡ b
                 → getD (seatsAfter r (advanced state i)) c noSeat ≡ record { institute = getD holders' c 0; step = getD steps' c 0 }
             go true t = step-by (eqb (chosen c) 0) refl
               where

@@ -1,90 +1,67 @@
--- `allotment::scatter::scatter` meets its contract: the candidates at the places below p are seated. Assumes nothing.
+-- `allotment::scatter::scatter` meets its contract: the candidates passed are seated. Assumes nothing.
 use Prim.Native.Nat.{_-_, _≤_}
-use mathlib.Core.Path.{refl, _∙_}
-use mathlib.Core.Logic.{⊎-elim}
+use mathlib.Core.Path.{_≡_, refl, sym}
 use native.Mathlib.Omega.{arith}
-use native.Mathlib.Numerals.{add-one}
-use denote.Ref.{now}
-use Rattle.round.specs.Reading.{roundOf}
-use Rattle.allotment.proofs.Turns.Known.{institute-sound, institute-few, number-least, number-most, number-on}
-use Rattle.allotment.proofs.Turns.Scatters.{Seating, seating-none, seating-kept, seating-more, seating-done}
+use lib.ListN.{length, getD}
+use Rattle.allotment.specs.Turns.{holderBy}
+use Rattle.allotment.specs.Tables.{Scattered}
+use Rattle.allotment.proofs.Turns.Scatters.{none-scattered, one-scattered}
 use borrow.Author.Needs.{needs}
 use Rattle.allotment.proofs.scatter.scatter.Statement.{statement}
 use Rattle.allotment.proofs.scatter.scatter.Tie as tie
 
 abbrev Inv-loop : tie.InvT-loop
-Inv-loop file merits j offers chosen holders₀ steps₀ number count p₀ holders steps p =
-    (p ≤ count) × Seating (roundOf file) j offers chosen p holders₀ steps₀ holders steps
+Inv-loop who chosen number holders₀ steps₀ q₀ q-end holders steps q = (q ≤ length who) × (q-end ≡ length who) × Scattered who (λ q. holderBy number (getD chosen q 0)) q holders₀ holders × Scattered who (λ q. getD chosen q 0) q steps₀ steps
 
 abbrev μ-loop : tie.MeasureT-loop
-μ-loop file merits j offers chosen holders₀ steps₀ number count p₀ holders steps p = count - p
-
-add-narrow : tie.Need-add-narrow Inv-loop μ-loop
-add-narrow c = omega (arith, institute-few (c .before .before .before .before .before .before .pre .0))
-
-narrow-requires : tie.Need-narrow-requires Inv-loop μ-loop
-narrow-requires c κs = omega (arith, institute-few (c .before .before .before .before .before .before .pre .0))
+μ-loop who chosen number holders₀ steps₀ q₀ q-end holders steps q = length who - q
 
 loop-holds : tie.Need-loop-holds Inv-loop μ-loop
-loop-holds c = (omega arith, seating-none _ _ (now (c .before .before .before .before .before .before .before .args .offers)) (now (c .before .before .before .before .before .before .before .args .chosen)) _ _)
+loop-holds c = (omega arith, refl, none-scattered _ _ _, none-scattered _ _ _)
 
-shared-slice-read-if1 : tie.Need-shared-slice-read-if1 Inv-loop μ-loop
-shared-slice-read-if1 c = search needs
+mul-c : tie.Need-mul-c Inv-loop μ-loop
+mul-c c = search needs
 
-merit-place-requires : tie.Need-merit-place-requires Inv-loop μ-loop
-merit-place-requires c κs = (c .before .before .before .before .before .before .before .before .before .before .before .pre .0, omega (arith, c .before .before .loop-test .taken, c .before .before .before .before .before .before .before .before .before .before .before .pre .1 .1))
+shared-slice-read-c : tie.Need-shared-slice-read-c Inv-loop μ-loop
+shared-slice-read-c c = search needs
 
-sub-c : tie.Need-sub-c Inv-loop μ-loop
-sub-c c = number-least (c .before .before .before .before .before .before .before .before .before .before .before .before .pre .0) (omega (arith, c .before .before .before .loop-test .taken, c .before .before .before .before .before .before .before .before .before .before .before .before .pre .1 .1)) (c .merit-place .ensures)
+cast-c : tie.Need-cast-c Inv-loop μ-loop
+cast-c c = omega (arith, c .shared-slice-known3 .given (c .before .before .loop .q))
 
-shared-slice-read-seat : tie.Need-shared-slice-read-seat Inv-loop μ-loop
-shared-slice-read-seat c = omega (arith, c .before .before .before .before .loop-test .taken, c .before .before .before .before .before .before .before .before .before .before .before .before .before .pre .1 .1)
+shared-slice-read-holder-by : tie.Need-shared-slice-read-holder-by Inv-loop μ-loop
+shared-slice-read-holder-by c = search needs
 
-seat-requires : tie.Need-seat-requires Inv-loop μ-loop
-seat-requires c κs =
-    let inv = c .before .before .before .before .before .before .before .loop .inv .1 in
-    let few = number-most (c .before .before .before .before .before .before .before .before .before .before .before .before .before .before .before .pre .0) (omega (arith, c .before .before .before .before .before .before .loop-test .taken, c .before .before .before .before .before .before .before .before .before .before .before .before .before .before .before .pre .1 .1)) (c .before .before .before .merit-place .ensures) in
-    (omega (arith, few, inv .holders-many, c .before .before .before .before .before .before .before .before .before .before .before .before .before .before .before .pre .1 .0), omega (arith, few, inv .steps-many, c .before .before .before .before .before .before .before .before .before .before .before .before .before .before .before .pre .1 .0))
+holder-by-requires : tie.Need-holder-by-requires Inv-loop μ-loop
+holder-by-requires c κs = search needs
 
-add-p : tie.Need-add-p Inv-loop μ-loop
-add-p c = search needs
+slice-write-holders : tie.Need-slice-write-holders Inv-loop μ-loop
+slice-write-holders c = omega (arith, c .before .before .before .before .loop .inv .2 .many, c .before .before .before .before .before .before .before .before .before .pre .1 .within (c .before .before .before .before .loop .q) (c .before .before .before .loop-test .taken))
+
+shared-slice-read-steps : tie.Need-shared-slice-read-steps Inv-loop μ-loop
+shared-slice-read-steps c = search needs
+
+slice-write-steps : tie.Need-slice-write-steps Inv-loop μ-loop
+slice-write-steps c = omega (arith, c .before .before .before .before .before .loop .inv .3 .many, c .before .before .before .before .before .before .before .before .before .before .pre .1 .within (c .before .before .before .before .before .loop .q) (c .before .before .before .before .loop-test .taken), c .before .before .before .before .before .before .before .before .before .before .pre .2)
+
+add-q : tie.Need-add-q Inv-loop μ-loop
+add-q c = search needs
 
 loop-less : tie.Need-loop-less Inv-loop μ-loop
 loop-less c = search needs
 
 loop-again : tie.Need-loop-again Inv-loop μ-loop
-loop-again c =
-    let a = c .before .before .before .before .before .before .before .before .before .before .before .args in
-    let pre = c .before .before .before .before .before .before .before .before .before .before .before .pre in
-    let here = c .before .before .before .loop in
-    let inside = c .before .before .loop-test .taken in (
-      omega (arith, inside),
-      ⊎-elim
-          (λ w.
-          let few = number-most (pre .0) (omega (arith, inside, pre .1 .1)) (w .1 .ensures) in
-          seating-more (roundOf (now (a .file))) (a .j) (now (a .offers)) (now (a .chosen)) (here .inv .1)
-          (institute-sound (pre .0))
-          (omega (arith, inside, pre .1 .1))
-          (number-on (pre .0) (omega (arith, inside, pre .1 .1)) (w .1 .ensures))
-          (c .before .before .before .before .narrow .ensures ∙ add-one (a .j))
-          refl
-          (omega (arith, few, here .inv .1 .holders-many, pre .1 .0))
-          (omega (arith, few, here .inv .1 .steps-many, pre .1 .0))
-          (w .0 .taken)
-          (w .10 ∙ w .5 .ensures .0)
-          (w .11 ∙ w .5 .ensures .1))
-          (λ w. seating-kept (roundOf (now (a .file))) (a .j) (now (a .offers)) (now (a .chosen)) (here .inv .1) (w .0 .left) (w .1) (w .2))
-          (c .if1 .came),
-    )
+loop-again c = (omega (arith, c .before .before .before .before .loop-test .taken), refl, one-scattered _ _ (c .before .before .before .before .before .before .before .before .before .before .pre .1) refl (c .before .before .before .before .loop-test .taken) (c .before .before .before .before .before .loop .inv .2) refl (c .before .holder-by .ensures), one-scattered _ _ (c .before .before .before .before .before .before .before .before .before .before .pre .1) (sym (c .before .before .before .before .before .before .before .before .before .before .pre .2)) (c .before .before .before .before .loop-test .taken) (c .before .before .before .before .before .loop .inv .3) refl refl)
 
 same-length : tie.Need-same-length Inv-loop μ-loop
-same-length c = c .before .loop .inv .1 .holders-many
+same-length c = search needs
 
 same-length-2 : tie.Need-same-length-2 Inv-loop μ-loop
-same-length-2 c = c .before .loop .inv .1 .steps-many
+same-length-2 c = search needs
 
 returns : tie.Need-returns Inv-loop μ-loop
-returns c = seating-done _ _ (now (c .before .before .before .before .before .before .before .before .before .args .offers)) (now (c .before .before .before .before .before .before .before .before .before .args .chosen)) (c .before .loop .inv .1) (c .before .loop .inv .0) (c .loop-test .left)
+returns c =
+    let e : c .before .loop .q ≡ length (c .before .before .before .before .before .before .args .who .now) = omega arith in
+    ((rw e at (c .before .loop .inv .2)), (rw e at (c .before .loop .inv .3)))
 
 pub scatter-spec : {M : Type 1} → statement M
 scatter-spec =
@@ -92,15 +69,16 @@ scatter-spec =
     (tie.spec
     Inv-loop
     μ-loop
-    add-narrow
-    narrow-requires
     loop-holds
-    shared-slice-read-if1
-    merit-place-requires
-    sub-c
-    shared-slice-read-seat
-    seat-requires
-    add-p
+    mul-c
+    shared-slice-read-c
+    cast-c
+    shared-slice-read-holder-by
+    holder-by-requires
+    slice-write-holders
+    shared-slice-read-steps
+    slice-write-steps
+    add-q
     loop-less
     loop-again
     same-length

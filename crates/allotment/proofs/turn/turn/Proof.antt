@@ -60,7 +60,8 @@ same-length-3 c = search needs
 returns : tie.Need-returns
 returns c =
     let a = c .before .before .before .before .before .before .before .before .before .before .before .before .before .before .before .before .before .before .before .args in
-    turn-taken (roundOf (now (a .file))) (a .i) (c .before .before .before .before .before .before .before .before .before .before .before .wide .ensures .0) (c .before .before .before .before .before .before .before .before .before .before .row-entry .ensures) (c .before .before .before .before .before .before .before .before .code-of .ensures) refl (c .before .before .before .before .choose-anew .ensures)
+    let done = c .before .before .before .before .choose-anew .ensures in
+    (turn-taken (roundOf (now (a .file))) (a .i) (c .before .before .before .before .before .before .before .before .before .before .before .wide .ensures .0) (c .before .before .before .before .before .before .before .before .before .before .row-entry .ensures) (c .before .before .before .before .before .before .before .before .code-of .ensures) refl (done .0), done .1, done .2)
 
 pub turn-spec : {M : Type 1} → statement M
 turn-spec =

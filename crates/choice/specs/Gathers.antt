@@ -1,0 +1,11 @@
+-- The members of a set of places, gathered into a list in their order: the number of a member there is how many of the set are before it.
+use Prim.Native.Nat.{ℕ, _<_}
+use mathlib.Core.Path.{_≡_}
+use mathlib.Core.Bool.{Bool, true}
+use mathlib.Core.List.{List}
+use lib.ListN.{getD}
+use Rattle.round.specs.Lists.{count}
+
+-- the list has, at the numbers of the gathered places below n, what f says of these places
+abbrev pub Gathers : (ℕ → Bool) → ℕ → (ℕ → ℕ) → List ℕ → Type 0
+Gathers X n f l = (p : ℕ) → p < n → X p ≡ true → getD l (count p X) 0 ≡ f p
