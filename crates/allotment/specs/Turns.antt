@@ -1,8 +1,8 @@
--- One turn of the process as the code takes it (document 01, "Offers"): the institute that gets the new offer chooses from what it holds and
--- that offer. In a table an offer is one number: 0 for none, or one more than the code of its entry's category.
+-- One turn of the process as the code takes it (document 01, "Offers"): the institute that gets the new offer chooses from that offer and
+-- those it holds that may compete with it. In a table an offer is one number: 0 for none, or one more than the code of its entry's category.
 use Prim.Native.Nat.{ℕ, suc, _-_, _<_}
 use mathlib.Core.Path.{_≡_}
-use mathlib.Core.Bool.{Bool, false, cond, not, _&&_}
+use mathlib.Core.Bool.{Bool, false, cond, not, _&&_, _||_}
 use mathlib.Core.List.{List}
 use lib.Dec.{eqb, ltb}
 use lib.ListN.{length, getD, set}
@@ -32,6 +32,20 @@ stepOffer k = cond (eqb k 6) 1 k
 unfoldable pub offerOf : ℕ → ℕ → ℕ → List ℕ → List ℕ → ℕ → ℕ
 offerOf number i new holders steps c =
     cond (eqb c i) new (cond (eqb (getD holders c 0) number) (stepOffer (getD steps c 0)) 0)
+
+-- open and OBC: the OBC step may hand its vacant positions to open entries
+abbrev pub shares : ℕ → Bool
+shares offer = eqb offer 1 || eqb offer 4
+
+-- two offers to one institute may compete: they are of one category, or of open and OBC
+unfoldable pub compete : ℕ → ℕ → Bool
+compete new offer = eqb offer new || (shares new && shares offer)
+
+-- candidate c's offer where it may compete with the new one, else none
+unfoldable pub rivalOf : ℕ → ℕ → ℕ → List ℕ → List ℕ → ℕ → ℕ
+rivalOf number i new holders steps c =
+    let offer : ℕ = offerOf number i new holders steps c in
+    cond (compete new offer) offer 0
 
 -- the marks of candidate c
 unfoldable pub marksOf : Round → ℕ → ℕ
@@ -68,10 +82,10 @@ module _ (r : Round) (j : ℕ) where
     pub holder : (c : ℕ) → c < candidateCount r → getD holders c 0 ≡ cond (takesPart offer c) (holderBy (suc j) (chosen c)) (getD holders₀ c 0)
     pub step : (c : ℕ) → c < candidateCount r → getD steps c 0 ≡ cond (takesPart offer c) (chosen c) (getD steps₀ c 0)
 
-  -- institute j has chosen from what it holds and candidate i's new offer
+  -- institute j has chosen from candidate i's new offer and those it holds that may compete with it
   unfoldable pub ChosenAnew : ℕ → ℕ → List ℕ → List ℕ → List ℕ → List ℕ → Type 0
   ChosenAnew i new holders₀ steps₀ holders steps =
-      let offer : ℕ → ℕ = offerOf (suc j) i new holders₀ steps₀ in
+      let offer : ℕ → ℕ = rivalOf (suc j) i new holders₀ steps₀ in
       Reseated offer (stepFor r j (offersBy offer)) holders₀ steps₀ holders steps
 
 -- candidate i has offered the best untried entry, and its institute has chosen

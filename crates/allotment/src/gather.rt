@@ -1,39 +1,18 @@
 // The offers that an institute chooses from, in the order of its merit list: who makes each, with what marks, and for which category.
+use crate::rival::rival_of;
 use round::access::candidate_marks;
 use round::access::merit_length;
 use round::access::merit_place;
-use round::word::wide;
 ghost use mathlib.Core.Path.{_≡_};
-ghost use Prim.Native.Nat.{suc, _≤_, _<_};
+ghost use Prim.Native.Nat.{suc, _≤_};
 ghost use lib.ListN.{length};
 ghost use Rattle.round.specs.Records.{headOf};
 ghost use Rattle.round.specs.Reading.{roundOf};
 ghost use Rattle.round.specs.Outcome.{CandidateStarts};
 ghost use Rattle.round.specs.Access.{instituteOf, MeritKnown};
-ghost use Rattle.allotment.specs.Turns.{stepOffer, offerOf, Gathered};
+ghost use Rattle.allotment.specs.Turns.{rivalOf, Gathered};
 
-// The offer that a seat at a step stands for.
-fn step_offer(step: u8) -> u8
-    ensures { λ r. ⌜ r ≡ stepOffer step ⌝ }
-{
-    if step == 6 { 1 } else { step }
-}
-
-// Candidate c's offer to the institute with a number, where candidate i makes a new one.
-fn offer_of(holders: &[u8], steps: &[u8], number: usize, i: usize, new: u8, c: usize) -> u8
-    requires { ⌜ (c < length (now holders)) × (c < length (now steps)) ⌝ }
-    ensures { λ r. ⌜ r ≡ offerOf number i new (now (holders .entry)) (now (steps .entry)) c ⌝ }
-{
-    if c == i {
-        return new;
-    }
-    if wide(holders[c]) != number {
-        return 0;
-    }
-    step_offer(steps[c])
-}
-
-// Lists the offers at the places of institute j's merit list, where candidate i makes a new one, and returns their number.
+// Lists candidate i's new offer and those that may compete with it, at the places of institute j's merit list, and returns their number.
 pub fn gather(
     file: &[u8],
     candidates: &[usize],
@@ -52,7 +31,7 @@ pub fn gather(
     requires { ⌜ (length (now holders) ≡ headOf (now file) .candidates) × (length (now steps) ≡ headOf (now file) .candidates) ⌝ }
     requires { ⌜ (512 ≤ length (now who)) × (512 ≤ length (now marks)) × (512 ≤ length (now offers)) ⌝ }
     ensures { λ k. ⌜ Gathered (roundOf (now (file .entry))) j
-        (offerOf (suc j) i new (now (holders .entry)) (now (steps .entry)))
+        (rivalOf (suc j) i new (now (holders .entry)) (now (steps .entry)))
         (length (instituteOf (now (file .entry)) j .merit))
         (now (who .exit)) (now (marks .exit)) (now (offers .exit)) k ⌝ }
 {
@@ -61,7 +40,7 @@ pub fn gather(
     let mut k = 0;
     for p in 0..count {
         let c = merit_place(file, merits, j, p) - 1;
-        let offer = offer_of(holders, steps, number, i, new, c);
+        let offer = rival_of(holders, steps, number, i, new, c);
         if offer != 0 {
             who[k] = c as u16;
             marks[k] = candidate_marks(file, candidates, c);

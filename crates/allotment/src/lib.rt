@@ -6,6 +6,7 @@ mod closing;
 mod export;
 mod gather;
 mod process;
+mod rival;
 mod scatter;
 mod table;
 mod turn;

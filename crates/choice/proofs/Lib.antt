@@ -21,3 +21,4 @@ pub mod Fills
 pub mod Steps
 pub mod Choosing
 pub mod Fewer
+pub mod Groups

@@ -27,14 +27,16 @@ use Rattle.choice.specs.Choice.{choose}
 use Rattle.choice.specs.Offers.{offeredBy}
 use Rattle.choice.specs.Gathers.{Gathers}
 use Rattle.choice.proofs.Counting.{test}
+use Rattle.choice.proofs.Groups.{Closed}
 use Rattle.choice.proofs.Fewer.{Same, number-below, choose-gathered}
 use Rattle.allotment.specs.Offers.{candidateOn, placeOn, stepsOn, stepFor}
-use Rattle.allotment.specs.Turns.{stepOffer, offerOf, marksOf, offersBy, holderBy, offersAt, takesPart, Gathered, Reseated, ChosenAnew, TurnTaken}
+use Rattle.allotment.specs.Turns.{stepOffer, rivalOf, marksOf, offersBy, holderBy, offersAt, takesPart, Gathered, Reseated, ChosenAnew, TurnTaken}
 use Rattle.allotment.specs.Tables.{Apart, Scattered, LeftFrom, KeptBelow}
 use Rattle.allotment.proofs.Market.Tests.{clash}
 use Rattle.allotment.proofs.Rounds.Places.{meritLength, candidate-at, candidate-below, place-of}
 use Rattle.allotment.proofs.Rounds.Completed.{marksOn, atPlaces}
-use Rattle.allotment.proofs.Turns.NextSeats.{Coded}
+use Rattle.allotment.proofs.Turns.Groups.{Group, Parted}
+use Rattle.allotment.proofs.Turns.AtTurn.{Coded}
 use Rattle.allotment.proofs.Turns.Gathers.{count-most, gathers-front, place-at}
 
 -- steps 1 to 5 are those of codes 0 to 4, and step 6 is open
@@ -66,6 +68,31 @@ round-coded file j k l n m =
     let body : List ℕ = bodyOf file (instituteRecord (headOf file) j) in
     coded-steps (headOf file .types) (headOf file .policy) body k n (rw e at m)
     ∙ sym (ap (λ (o : Institute). suc (codeOf (getD (o .steps) (k - 1) noStep .category))) e)
+
+-- only the OBC step hands positions on, to step 6
+closed-steps : (types policy : ℕ) (body : List ℕ) (G : ℕ → Bool) → Group G → Closed (λ c. G (suc (codeOf c))) (λ k. G (stepOffer k)) 1 (stepsIn types policy body)
+unfolding stepsIn stepIn dereserved
+closed-steps types policy body G group = go (eqb policy 1)
+  where
+    none : G 0 ≡ false
+    none = group .none
+
+    go : (b : Bool)
+        → Closed (λ c. G (suc (codeOf c))) (λ k. G (stepOffer k)) 1
+        (stepIn types body 0 0
+        ∷ stepIn types body 1 0
+        ∷ stepIn types body 2 0
+        ∷ stepIn types body 3 (cond b 6 0)
+        ∷ stepIn types body 4 0
+        ∷ cond b (dereserved types ∷ []) [])
+    go true = (refl, λ e. none, (refl, λ e. none, (refl, λ e. none, (refl, λ e. group .joint ∙ e, (refl, λ e. none, (refl, λ e. none, tt))))))
+    go false = (refl, λ e. none, (refl, λ e. none, (refl, λ e. none, (refl, λ e. none, (refl, λ e. none, tt)))))
+
+pub round-parted : (file : List ℕ) → Parted (roundOf file)
+unfolding instituteFrom
+round-parted file j l G group =
+    let e = institute-at file j (omega (arith, length-institutes file)) in
+    rw e (closed-steps (headOf file .types) (headOf file .policy) (bodyOf file (instituteRecord (headOf file) j)) G group)
 
 getD-map-in : (f : ℕ → ℕ) (l : List ℕ) (p : ℕ) → p < length l → getD (map f l) p 0 ≡ f (getD l p 0)
 getD-map-in f [] p l = absurd (omega arith)
@@ -190,7 +217,7 @@ module _ (r : Round) (j : ℕ) {n types : ℕ} (sound : SoundInstitute n types (
 -- listed, chosen and put into the tables
 pub all-chosen : (file : List ℕ) (h : CodeHead) (j i new : ℕ) {n types : ℕ} → SoundInstitute n types (instituteAt (roundOf file) j)
     → (holders₀ steps₀ : List ℕ) {holders steps : List ℕ} (who marks offers front : List ℕ) {found body : List ℕ} (k : ℕ) {number : ℕ} (least : ℕ)
-    → Gathered (roundOf file) j (offerOf (suc j) i new holders₀ steps₀) (meritLength (roundOf file) j) who marks offers k
+    → Gathered (roundOf file) j (rivalOf (suc j) i new holders₀ steps₀) (meritLength (roundOf file) j) who marks offers k
     → k ≤ length who → k ≤ length marks → BodyRead file h j body
     → found ≡ choose (take k marks) (offeredBy (take k offers)) (stepsIn (h .types) (h .policy) body) → front ≡ found → number ≡ suc j
     → Scattered (take k who) (λ q. holderBy number (getD front q 0)) (length (take k who)) holders₀ holders
@@ -200,7 +227,7 @@ pub all-chosen : (file : List ℕ) (h : CodeHead) (j i new : ℕ) {n types : ℕ
 unfolding ChosenAnew
 all-chosen file h j i new sound holders₀ steps₀ {holders} {steps} who marks offers front {found} {body} k {number} least g fits fit read ec ef called hs ss left =
     let r : Round = roundOf file in
-    let offer : ℕ → ℕ = offerOf (suc j) i new holders₀ steps₀ in
+    let offer : ℕ → ℕ = rivalOf (suc j) i new holders₀ steps₀ in
     let long : length (take k who) ≡ k = length-take-le k who fits in
     let hs' : Scattered (take k who) (λ q. holderBy number (getD front q 0)) k holders₀ holders = rw long at hs in
     let ss' : Scattered (take k who) (λ q. getD front q 0) k steps₀ steps = rw long at ss in

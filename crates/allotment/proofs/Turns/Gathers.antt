@@ -7,7 +7,7 @@ use mathlib.Core.Logic.{_≢_}
 use native.Mathlib.Omega.{arith}
 use native.Mathlib.Decide.{decLt, ℕ-discrete}
 use native.Mathlib.Numerals.{add-one}
-use lib.ListN.{length, getD, set, take, length-set}
+use lib.ListN.{length, set, take, length-set}
 use lib.Seq.{getD-set-same, getD-set-other, getD-take}
 use borrow.Author.Tests.{eq-eqb, ne-eqb}
 use Rattle.round.specs.Lists.{count}
@@ -18,7 +18,7 @@ use Rattle.choice.specs.Gathers.{Gathers}
 use Rattle.choice.proofs.Counting.{test, bit-true, bit-false, bit-max}
 use Rattle.choice.proofs.Fewer.{number-below}
 use Rattle.allotment.specs.Offers.{candidateOn}
-use Rattle.allotment.specs.Turns.{stepOffer, offerOf, marksOf, offersAt, Gathered}
+use Rattle.allotment.specs.Turns.{rivalOf, marksOf, offersAt, Gathered}
 use Rattle.allotment.proofs.Market.Tests.{clash}
 
 module _ (X : ℕ → Bool) where
@@ -131,22 +131,8 @@ unfolding marksOf
 marks-read file j p e d = d ∙ ap (λ n. candidateAt (roundOf file) (n - 1) .marks) e
 
 -- the offer of the candidate whose number was read
-pub offer-read : (r : Round) (j i new : ℕ) (holders steps : List ℕ) (p : ℕ) {number x : ℕ} → number ≡ meritAt (instituteAt r j) p
-    → x ≡ offerOf (j + 1) i new holders steps (number - 1)
-    → x ≡ offerOf (suc j) i new holders steps (candidateOn r j p)
-offer-read r j i new holders steps p {number} e d =
-    d ∙ ap (λ n. offerOf n i new holders steps (number - 1)) (add-one j) ∙ ap (λ n. offerOf (suc j) i new holders steps (n - 1)) e
-
--- candidate c's offer, case by case
-module _ (number i new : ℕ) (holders steps : List ℕ) (c : ℕ) where
-  pub offer-new : c ≡ i → new ≡ offerOf number i new holders steps c
-  unfolding offerOf
-  offer-new e = rw (eq-eqb c i e)
-
-  pub offer-away : c ≢ i → {x : ℕ} → x ≡ getD holders c 0 → x ≢ number → 0 ≡ offerOf number i new holders steps c
-  unfolding offerOf
-  offer-away d e n = rw (ne-eqb c i d, ne-eqb (getD holders c 0) number (λ z. n (e ∙ z)))
-
-  pub offer-there : c ≢ i → {x y : ℕ} → x ≡ getD holders c 0 → x ≡ number → y ≡ stepOffer (getD steps c 0) → y ≡ offerOf number i new holders steps c
-  unfolding offerOf
-  offer-there d e n s = rw (ne-eqb c i d, eq-eqb (getD holders c 0) number (sym e ∙ n)) s
+pub rival-read : (r : Round) (j i new : ℕ) (holders steps : List ℕ) (p : ℕ) {number x : ℕ} → number ≡ meritAt (instituteAt r j) p
+    → x ≡ rivalOf (j + 1) i new holders steps (number - 1)
+    → x ≡ rivalOf (suc j) i new holders steps (candidateOn r j p)
+rival-read r j i new holders steps p {number} e d =
+    d ∙ ap (λ n. rivalOf n i new holders steps (number - 1)) (add-one j) ∙ ap (λ n. rivalOf (suc j) i new holders steps (n - 1)) e

@@ -31,7 +31,9 @@ use Rattle.allotment.proofs.Rounds.Process.{start-running, advanced, tu
 use Rattle.allotment.proofs.Rounds.Counted.{entries, state-sum, state-most}
 use Rattle.allotment.proofs.Rounds.Turn.{newEntry}
 use Rattle.allotment.proofs.Rounds.Bounds.{seats-length}
-use Rattle.allotment.proofs.Turns.NextSeats.{step-offered, Coded, next-held}
+use Rattle.allotment.proofs.Turns.Groups.{Parted}
+use Rattle.allotment.proofs.Turns.AtTurn.{step-offered, Coded, AtTurn}
+use Rattle.allotment.proofs.Turns.NextSeats.{next-held}
 
 -- the first number that passes
 first-is : {n i : ℕ} {f : ℕ → Bool} → i < n → ((k : ℕ) → k < i → f k ≡ false) → f i ≡ true → i ≡ first n f
@@ -182,16 +184,19 @@ module _ {types : ℕ} {r : Round} (sound : Sound types r) where
           let k : entryTotal r - count ≡ suc (entryTotal r - (count + 1)) = omega (arith, going-few) in
           ap (turns r (entryTotal r - (count + 1))) (sym turn-is) ∙ ap (λ k. turns r k state) (sym k) ∙ g .ends
 
-      pub going-next : Coded r → {state' holders' steps' : List ℕ} → TurnTaken r i state holders steps state' holders' steps' → Going r state' holders' steps' (count + 1)
-      going-next coded t =
+      pub going-next : Coded r → Parted r → {state' holders' steps' : List ℕ} → TurnTaken r i state holders steps state' holders' steps' → Going r state' holders' steps' (count + 1)
+      going-next coded parted t =
           rw (t .one-more)
           record {
             running = onward;
-            seated = next-held sound coded (g .running) i l (may-next e l) (g .seated) (newEntry r state i .institute - 1) at (t .anew);
+            seated = next-held known (newEntry r state i .institute - 1) at (t .anew);
             counted = sym (state-sum onward ∙ sum-next ∙ sym (add-one count));
             ends = ends-next;
           }
         where
+          known : AtTurn types r state i holders steps
+          known = record { sound = sound; coded = coded; parted = parted; run = g .running; inside = l; may = may-next e l; held = g .seated }
+
           at : newEntry r state i .institute ≡ suc (newEntry r state i .institute - 1)
           at = omega (arith, sound .candidate i l .entry-from (getD state i 0) (going-more e l))
 

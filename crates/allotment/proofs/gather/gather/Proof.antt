@@ -7,15 +7,15 @@ use lib.ListN.{length}
 use denote.Ref.{now}
 use Rattle.round.specs.Places.{instituteAt}
 use Rattle.round.specs.Reading.{roundOf}
-use Rattle.allotment.specs.Turns.{offerOf}
+use Rattle.allotment.specs.Turns.{rivalOf}
 use Rattle.allotment.proofs.Turns.Known.{institute-few, candidates-few, merit-few, number-least, number-most, number-on, candidate-known}
-use Rattle.allotment.proofs.Turns.Gathers.{Gathering, none-gathered, one-gathered, one-passed, marks-read, offer-read}
+use Rattle.allotment.proofs.Turns.Gathers.{Gathering, none-gathered, one-gathered, one-passed, marks-read, rival-read}
 use borrow.Author.Needs.{needs}
 use Rattle.allotment.proofs.gather.gather.Statement.{statement}
 use Rattle.allotment.proofs.gather.gather.Tie as tie
 
 abbrev Inv-loop : tie.InvT-loop
-Inv-loop file candidates merits j i new holders steps who₀ marks₀ offers₀ count number k₀ p₀ who marks offers k p = (p ≤ count) × Gathering (roundOf file) j (offerOf (suc j) i new holders steps) who₀ marks₀ offers₀ who marks offers k p
+Inv-loop file candidates merits j i new holders steps who₀ marks₀ offers₀ count number k₀ p₀ who marks offers k p = (p ≤ count) × Gathering (roundOf file) j (rivalOf (suc j) i new holders steps) who₀ marks₀ offers₀ who marks offers k p
 
 abbrev μ-loop : tie.MeasureT-loop
 μ-loop file candidates merits j i new holders steps who₀ marks₀ offers₀ count number k₀ p₀ who marks offers k p = count - p
@@ -35,8 +35,8 @@ merit-place-requires c κs = (c .before .before .before .before .before .before 
 sub-c : tie.Need-sub-c Inv-loop μ-loop
 sub-c c = number-least (c .before .before .before .before .before .before .before .before .before .before .before .before .pre .0) (omega (arith, c .before .loop-test .taken, c .before .before .before .merit-length .ensures)) (c .merit-place .ensures)
 
-offer-of-requires : tie.Need-offer-of-requires Inv-loop μ-loop
-offer-of-requires c κs =
+rival-of-requires : tie.Need-rival-of-requires Inv-loop μ-loop
+rival-of-requires c κs =
     let few = number-most (c .before .before .before .before .before .before .before .before .before .before .before .before .pre .0) (omega (arith, c .before .loop-test .taken, c .before .before .before .merit-length .ensures)) (c .merit-place .ensures) in
     (omega (arith, few, c .before .before .before .before .before .before .before .before .before .before .before .before .pre .1 .1 .0 .0), omega (arith, few, c .before .before .before .before .before .before .before .before .before .before .before .before .pre .1 .1 .0 .1))
 
@@ -75,7 +75,7 @@ loop-again c =
     let r = roundOf (now (a .file)) in
     let inv = c .before .before .before .before .loop .inv .1 in
     let here : c .before .before .before .before .loop .p < length (instituteAt r (a .j) .merit) = omega (arith, c .before .before .before .loop-test .taken, c .before .before .before .before .before .merit-length .ensures) in
-    let offer = offer-read r (a .j) (a .i) (a .new) (now (a .holders)) (now (a .steps)) (c .before .before .before .before .loop .p) (c .before .before .merit-place .ensures) (c .before .offer-of .ensures) in (
+    let offer = rival-read r (a .j) (a .i) (a .new) (now (a .holders)) (now (a .steps)) (c .before .before .before .before .loop .p) (c .before .before .merit-place .ensures) (c .before .rival-of .ensures) in (
       omega (arith, c .before .before .before .loop-test .taken),
       ⊎-elim
           (λ w.
@@ -120,7 +120,7 @@ gather-spec =
     loop-holds
     merit-place-requires
     sub-c
-    offer-of-requires
+    rival-of-requires
     cast-who
     mul-who
     slice-write-who

@@ -9,7 +9,7 @@ use Rattle.round.proofs.Sound.{length-candidates}
 use Rattle.allotment.specs.Process.{entryTotal}
 use Rattle.allotment.specs.Turns.{NobodyBelow}
 use Rattle.allotment.proofs.Turns.Known.{round-sound, candidates-many, sized}
-use Rattle.allotment.proofs.Turns.Choosing.{round-coded}
+use Rattle.allotment.proofs.Turns.Choosing.{round-coded, round-parted}
 use Rattle.allotment.proofs.Turns.Going.{Going, going-start, going-more, going-few, going-next, going-low, going-done, going-tried, going-holders, going-steps, entries-few}
 use Rattle.allotment.proofs.process.take_turns.Statement.{statement}
 use Rattle.allotment.proofs.process.take_turns.Tie as tie
@@ -83,7 +83,7 @@ loop-again c =
     let inv = c .before .before .before .before .before .before .before .before .before .before .before .before .before .before .loop .inv .0 in
     let next = c .before .before .before .before .before .before .before .before .before .before .before .next-candidate .ensures in
     let done = c .before .before .before .before .before .before .turn .ensures in
-    (going-next sound inv next (omega (arith, c .before .before .before .before .before .before .before .before .before .before .if1 .left, candidates-many (c .before .before .before .before .before .before .before .before .before .before .before .before .before .before .before .before .before .before .before .before .before .pre .0))) (round-coded (now (c .before .before .before .before .before .before .before .before .before .before .before .before .before .before .before .before .before .before .before .before .before .args .file))) (done .0), going-low sound inv next (done .1) (done .0) (done .2))
+    (going-next sound inv next (omega (arith, c .before .before .before .before .before .before .before .before .before .before .if1 .left, candidates-many (c .before .before .before .before .before .before .before .before .before .before .before .before .before .before .before .before .before .before .before .before .before .pre .0))) (round-coded (now (c .before .before .before .before .before .before .before .before .before .before .before .before .before .before .before .before .before .before .before .before .before .args .file))) (round-parted (now (c .before .before .before .before .before .before .before .before .before .before .before .before .before .before .before .before .before .before .before .before .before .args .file))) (done .0), going-low sound inv next (done .1) (done .0) (done .2))
 
 pub take-turns-spec : {M : Type 1} → statement M
 take-turns-spec =

@@ -9,7 +9,7 @@ use lib.Seq.{length-take-le, length-front}
 use denote.Ref.{now}
 use Rattle.round.specs.Reading.{roundOf}
 use Rattle.choice.proofs.Steps.{front-back}
-use Rattle.allotment.specs.Turns.{offerOf}
+use Rattle.allotment.specs.Turns.{rivalOf}
 use Rattle.allotment.proofs.Turns.Known.{candidates-are, candidates-many, knows-merit, knows-institute, institute-sound, institute-few, merit-few, sized}
 use Rattle.allotment.proofs.Turns.Choosing.{listed-most, listed-apart, all-chosen}
 use borrow.Author.Needs.{needs}
@@ -20,7 +20,7 @@ use Rattle.allotment.proofs.turn.choose_anew.Tie as tie
 few : (c : tie.After-gather) → c .gather .result ≤ 512
 few c =
     let known = knows-merit (c .before .before .before .before .before .before .before .before .before .before .before .before .before .before .before .pre .0) (c .before .before .before .before .before .before .before .before .before .before .before .before .before .before .before .pre .1 .0) in
-    omega (arith, merit-few known, listed-most (roundOf (now (c .before .before .before .before .before .before .before .before .before .before .before .before .before .before .before .args .file))) (c .before .before .before .before .before .before .before .before .before .before .before .before .before .before .before .args .j) (institute-sound known) (offerOf (suc (c .before .before .before .before .before .before .before .before .before .before .before .before .before .before .before .args .j)) (c .before .before .before .before .before .before .before .before .before .before .before .before .before .before .before .args .i) (c .before .before .before .before .before .before .before .before .before .before .before .before .before .before .before .args .new) (now (c .before .before .before .before .before .before .before .before .before .before .before .before .before .before .before .args .holders)) (now (c .before .before .before .before .before .before .before .before .before .before .before .before .before .before .before .args .steps))) (c .gather .ensures))
+    omega (arith, merit-few known, listed-most (roundOf (now (c .before .before .before .before .before .before .before .before .before .before .before .before .before .before .before .args .file))) (c .before .before .before .before .before .before .before .before .before .before .before .before .before .before .before .args .j) (institute-sound known) (rivalOf (suc (c .before .before .before .before .before .before .before .before .before .before .before .before .before .before .before .args .j)) (c .before .before .before .before .before .before .before .before .before .before .before .before .before .before .before .args .i) (c .before .before .before .before .before .before .before .before .before .before .before .before .before .before .before .args .new) (now (c .before .before .before .before .before .before .before .before .before .before .before .before .before .before .before .args .holders)) (now (c .before .before .before .before .before .before .before .before .before .before .before .before .before .before .before .args .steps))) (c .gather .ensures))
 
 who-long : (c : tie.After-gather) → length (c .gather .last .1 .1 .1 .1 .1 .1 .1 .1 .0) ≡ 512
 who-long c = c .gather .kept .1 .1 .1 .1 .1 .1 .1 .1 .0 ∙ sized 512 (c .before .before .before .before .before .before .before .before .before .nobody .ensures)
@@ -141,7 +141,7 @@ reseat-requires c κs =
     let known = knows-merit (c .before .before .before .before .before .before .before .before .before .before .before .before .before .before .before .before .before .before .before .before .before .before .before .before .before .before .before .before .before .pre .0) (c .before .before .before .before .before .before .before .before .before .before .before .before .before .before .before .before .before .before .before .before .before .before .before .before .before .before .before .before .before .pre .1 .0) in
     let g = c .before .before .before .before .before .before .before .before .before .before .before .before .before .before in
     let lengths = c .before .before .before .before .before .before .before .before .before .before .before .before .before .before .before .before .before .before .before .before .before .before .before .before .before .before .before .before .before .pre .1 .1 in
-    let apart = listed-apart (roundOf (now (c .before .before .before .before .before .before .before .before .before .before .before .before .before .before .before .before .before .before .before .before .before .before .before .before .before .before .before .before .before .args .file))) (c .before .before .before .before .before .before .before .before .before .before .before .before .before .before .before .before .before .before .before .before .before .before .before .before .before .before .before .before .before .args .j) (institute-sound known) (offerOf (suc (c .before .before .before .before .before .before .before .before .before .before .before .before .before .before .before .before .before .before .before .before .before .before .before .before .before .before .before .before .before .args .j)) (c .before .before .before .before .before .before .before .before .before .before .before .before .before .before .before .before .before .before .before .before .before .before .before .before .before .before .before .before .before .args .i) (c .before .before .before .before .before .before .before .before .before .before .before .before .before .before .before .before .before .before .before .before .before .before .before .before .before .before .before .before .before .args .new) (now (c .before .before .before .before .before .before .before .before .before .before .before .before .before .before .before .before .before .before .before .before .before .before .before .before .before .before .before .before .before .args .holders)) (now (c .before .before .before .before .before .before .before .before .before .before .before .before .before .before .before .before .before .before .before .before .before .before .before .before .before .before .before .before .before .args .steps))) (g .gather .ensures) (candidates-many (c .before .before .before .before .before .before .before .before .before .before .before .before .before .before .before .before .before .before .before .before .before .before .before .before .before .before .before .before .before .pre .0) ∙ sym (lengths .0)) in
+    let apart = listed-apart (roundOf (now (c .before .before .before .before .before .before .before .before .before .before .before .before .before .before .before .before .before .before .before .before .before .before .before .before .before .before .before .before .before .args .file))) (c .before .before .before .before .before .before .before .before .before .before .before .before .before .before .before .before .before .before .before .before .before .before .before .before .before .before .before .before .before .args .j) (institute-sound known) (rivalOf (suc (c .before .before .before .before .before .before .before .before .before .before .before .before .before .before .before .before .before .before .before .before .before .before .before .before .before .before .before .before .before .args .j)) (c .before .before .before .before .before .before .before .before .before .before .before .before .before .before .before .before .before .before .before .before .before .before .before .before .before .before .before .before .before .args .i) (c .before .before .before .before .before .before .before .before .before .before .before .before .before .before .before .before .before .before .before .before .before .before .before .before .before .before .before .before .before .args .new) (now (c .before .before .before .before .before .before .before .before .before .before .before .before .before .before .before .before .before .before .before .before .before .before .before .before .before .before .before .before .before .args .holders)) (now (c .before .before .before .before .before .before .before .before .before .before .before .before .before .before .before .before .before .before .before .before .before .before .before .before .before .before .before .before .before .args .steps))) (g .gather .ensures) (candidates-many (c .before .before .before .before .before .before .before .before .before .before .before .before .before .before .before .before .before .before .before .before .before .before .before .before .before .before .before .before .before .pre .0) ∙ sym (lengths .0)) in
     (ap length (found-back (c .before .before .before .before .before .before)) ∙ found-length (c .before .before .before .before .before .before) ∙ sym (front-who g), (rw (front-who g) apart), lengths .1 ∙ sym (lengths .0))
 
 same-length : tie.Need-same-length

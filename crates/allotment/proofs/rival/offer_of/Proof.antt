@@ -1,8 +1,8 @@
--- `allotment::gather::offer_of` meets its contract. Assumes nothing.
+-- `allotment::rival::offer_of` meets its contract. Assumes nothing.
 use borrow.Author.Needs.{needs}
-use Rattle.allotment.proofs.Turns.Gathers.{offer-new, offer-away, offer-there}
-use Rattle.allotment.proofs.gather.offer_of.Statement.{statement}
-use Rattle.allotment.proofs.gather.offer_of.Tie as tie
+use Rattle.allotment.proofs.Turns.Cases.{offer-new, offer-away, offer-there}
+use Rattle.allotment.proofs.rival.offer_of.Statement.{statement}
+use Rattle.allotment.proofs.rival.offer_of.Tie as tie
 
 returns : tie.Need-returns
 returns c = offer-new _ _ _ _ _ _ (c .if1 .taken)

@@ -1,7 +1,7 @@
--- `allotment::gather::step_offer` meets its contract. Assumes nothing.
+-- `allotment::rival::step_offer` meets its contract. Assumes nothing.
 use borrow.Author.Tests.{eq-eqb, ne-eqb}
-use Rattle.allotment.proofs.gather.step_offer.Statement.{statement}
-use Rattle.allotment.proofs.gather.step_offer.Tie as tie
+use Rattle.allotment.proofs.rival.step_offer.Statement.{statement}
+use Rattle.allotment.proofs.rival.step_offer.Tie as tie
 
 returns : tie.Need-returns
 returns c = rw (eq-eqb _ _ (c .if1 .taken))
