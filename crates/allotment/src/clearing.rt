@@ -1,4 +1,4 @@
-// The clearing of a lent area.
+// The clearing of an area or a table.
 ghost use mathlib.Core.Path.{_≡_};
 ghost use mathlib.Core.List.{_++_};
 ghost use Prim.Native.Nat.{_≤_};

@@ -1,5 +1,5 @@
 // The process: while some candidate is held by no institute and has an untried entry, the lowest-numbered such candidate has a turn.
-use crate::table::clear;
+use crate::clearing::clear;
 use crate::table::zeros;
 use crate::turn::turn;
 use round::access::row_length;
@@ -98,8 +98,8 @@ pub fn run_offers(
         × HeldIn (seats (roundOf (now (file .entry)))) (now (holders .exit)) (now (steps .exit)) ⌝ }
 {
     let n = h.candidates;
-    clear(holders);
-    clear(steps);
+    clear(holders, n);
+    clear(steps, n);
     let mut tried = zeros();
     take_turns(file, h, candidates, merits, &mut tried[..n], holders, steps)
 }

@@ -17,15 +17,6 @@ pub fn nobody() -> [u16; 512]
     [0u16; 512]
 }
 
-// Makes each byte 0.
-pub fn clear(table: &mut [u8])
-    ensures { λ _. ⌜ now (table .exit) ≡ replicate (length (now (table .entry))) 0 ⌝ }
-{
-    for k in 0..table.len() {
-        table[k] = 0;
-    }
-}
-
 // A small number as a byte.
 pub fn narrow(x: usize) -> u8
     requires { ⌜ x < 256 ⌝ }

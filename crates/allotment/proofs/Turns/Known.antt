@@ -1,9 +1,9 @@
 -- What is known of an accepted file whose head and starts of records are at hand.
-use mathlib.Core.Path.{_≡_, refl, sym, _∙_, ap}
-use mathlib.Core.List.{List, _∷_}
 use Prim.Native.Nat.{ℕ, zero, suc, _-_, _≤_, _<_}
+use mathlib.Core.Path.{_≡_, refl, sym, _∙_, ap}
+use mathlib.Core.List.{List, [], _∷_, _++_}
 use native.Mathlib.Omega.{arith}
-use lib.ListN.{length, take, replicate, length-replicate}
+use lib.ListN.{length, take, drop, replicate, length-replicate}
 use Rattle.round.specs.declared.entry.Entry.{Entry}
 use Rattle.round.specs.declared.head.Head.{Head as CodeHead}
 use Rattle.round.specs.Records.{Head, headOf}
@@ -12,6 +12,7 @@ use Rattle.round.specs.Places.{candidateAt, instituteAt, entryAt, meritAt}
 use Rattle.round.specs.Sound.{Sound, SoundInstitute}
 use Rattle.round.specs.Outcome.{CandidateStarts}
 use Rattle.round.specs.Access.{CandidateKnown, MeritKnown, InstituteKnown}
+use Rattle.round.proofs.Words.{append-none}
 use Rattle.round.proofs.Sound.{length-candidates, length-institutes, sound}
 use Rattle.allotment.specs.Offers.{candidateOn}
 use Rattle.allotment.specs.Process.{candidateCount, instituteCount}
@@ -104,3 +105,13 @@ pub front-zeros : (m n : ℕ) → m ≤ n → take m (replicate n zero) ≡ repl
 front-zeros zero n l = refl
 front-zeros (suc m) zero l = absurd (omega arith)
 front-zeros (suc m) (suc n) l = ap (λ (t : List ℕ). zero ∷ t) (front-zeros m n (omega arith))
+
+drop-all : (n : ℕ) (l : List ℕ) → length l ≡ n → drop n l ≡ []
+drop-all zero [] e = refl
+drop-all zero (x ∷ l) e = absurd (omega arith)
+drop-all (suc n) [] e = refl
+drop-all (suc n) (x ∷ l) e = drop-all n l (omega arith)
+
+-- a table that was cleared as far as it goes
+pub cleared : (n : ℕ) (before : List ℕ) {after : List ℕ} → length before ≡ n → after ≡ replicate n 0 ++ drop n before → after ≡ replicate n 0
+cleared n before many e = e ∙ ap (λ (t : List ℕ). replicate n 0 ++ t) (drop-all n before many) ∙ append-none (replicate n 0)

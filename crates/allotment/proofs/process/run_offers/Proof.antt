@@ -3,11 +3,12 @@ use Prim.Native.Nat.{ℕ, _≤_}
 use mathlib.Core.Path.{sym, _∙_, ap}
 use mathlib.Core.List.{List}
 use native.Mathlib.Omega.{arith}
-use lib.ListN.{take, replicate}
+use lib.ListN.{take}
 use lib.Seq.{length-take-le}
+use denote.Ref.{now}
 use Rattle.round.specs.declared.head.Head.{Head}
 use Rattle.allotment.specs.Held.{AtHand}
-use Rattle.allotment.proofs.Turns.Known.{round-sound, candidates-many, sized, front-zeros}
+use Rattle.allotment.proofs.Turns.Known.{round-sound, candidates-many, sized, front-zeros, cleared}
 use borrow.Author.Needs.{needs}
 use Rattle.allotment.proofs.process.run_offers.Statement.{statement}
 use Rattle.allotment.proofs.process.run_offers.Tie as tie
@@ -37,8 +38,8 @@ take-turns-requires c κs =
       pre .0,
       (
         ap (λ (t : List ℕ). take (a .h .candidates) t) (c .before .before .before .zeros .ensures) ∙ front-zeros (a .h .candidates) 512 (candidates-few (pre .0)),
-        c .before .before .before .before .before .before .before .before .before .before .clear .ensures ∙ ap (λ n. replicate n 0) (pre .1 .0),
-        c .before .before .before .before .before .before .clear2 .ensures ∙ ap (λ n. replicate n 0) (pre .1 .1),
+        cleared _ (now (a .holders)) (pre .1 .0) (c .before .before .before .before .before .before .before .before .before .before .clear .ensures),
+        cleared _ (now (a .steps)) (pre .1 .1) (c .before .before .before .before .before .before .clear2 .ensures),
       ),
     )
 
