@@ -21,6 +21,8 @@ pub enum Made {
     Wide,
     /// The contested round of so many candidates.
     Contested(usize),
+    /// The contested round of 512 candidates with rows of so many entries at most.
+    Rows(usize),
     /// A round of so many candidates that is hard on the placing search.
     Worst(usize),
     /// Files made for one refusal.
@@ -39,6 +41,7 @@ impl Made {
             Made::Mixed => "mixed".to_string(),
             Made::Wide => "wide".to_string(),
             Made::Contested(n) => format!("contested-{n}"),
+            Made::Rows(entries) => format!("rows-{entries}"),
             Made::Worst(n) => format!("worst-{n}"),
             Made::Refused(number) => format!("refused-{number}"),
             Made::TwoFaults => "two-faults".to_string(),
@@ -53,6 +56,7 @@ impl Made {
             Made::Mixed => write(&shapes::mixed(seed)),
             Made::Wide => write(&shapes::wide(seed)),
             Made::Contested(n) => write(&shapes::contested(n, seed)),
+            Made::Rows(entries) => write(&shapes::short_rows(512, entries, seed)),
             Made::Worst(n) => write(&shapes::worst(n, seed)),
             Made::Refused(number) => damaged(number, seed).file,
             Made::TwoFaults => two_faults(seed).file,

@@ -51,6 +51,16 @@ pub fn growth() -> Vec<(String, Made, Vec<u64>)> {
         .into()
 }
 
+/// The contested shape with rows of growing length.
+pub fn lengthening() -> Vec<(String, Made, Vec<u64>)> {
+    [2, 4, 8, 16]
+        .map(|entries| {
+            let made = Made::Rows(entries);
+            (made.name(), made, vec![1, 2, 3])
+        })
+        .into()
+}
+
 /// The time given to the files of a class together, for each of the two.
 const BUDGET: Duration = Duration::from_secs(2);
 

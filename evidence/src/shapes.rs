@@ -207,6 +207,15 @@ pub fn contested(n: usize, seed: u64) -> Round {
     }
 }
 
+/// The contested shape at n candidates with rows of so many entries at most.
+pub fn short_rows(n: usize, entries: usize, seed: u64) -> Round {
+    let mut round = contested(n, seed);
+    for candidate in &mut round.candidates {
+        candidate.row.truncate(entries);
+    }
+    round
+}
+
 /// The two neighbouring types, the last one's neighbour being the first.
 fn two_types(first: usize) -> u8 {
     1 << (first % 8) | 1 << ((first + 1) % 8)

@@ -52,7 +52,13 @@ fn processor() -> String {
 }
 
 /// The whole page; the plot stands under this name beside it.
-pub fn page(classes: &[Measured], growth: &[Measured], stack: &str, plot: &str) -> String {
+pub fn page(
+    classes: &[Measured],
+    growth: &[Measured],
+    lengthening: &[Measured],
+    stack: &str,
+    plot: &str,
+) -> String {
     format!(
         "# What a call costs\n\n\
          Written by `./bench`: one process, one core of {}, both built for release, the same files for the unit and the second\n\
@@ -60,9 +66,12 @@ pub fn page(classes: &[Measured], growth: &[Measured], stack: &str, plot: &str) 
          of each file at least. n is the largest number of candidates. The worst ones are hard on the\n\
          placing search: one institute, half of all candidates too many for its 8 types (`evidence/src/shapes.rs`).\n\n\
          {}\n## Cost over n\n\nThe contested shape, all but n and the positions equal.\n\n{}\n![cost over n]({plot})\n\n\
+         ## Cost over offers\n\nThe contested shape at 512 candidates, the rows cut to so many entries: an institute holds at most 40, however many offers are\n\
+         made to it.\n\n{}\n\
          ## Stack\n\n{stack}",
         processor(),
         table(classes),
-        table(growth)
+        table(growth),
+        table(lengthening)
     )
 }

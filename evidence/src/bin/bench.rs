@@ -1,7 +1,7 @@
 //! Times the unit and the second program on the same files: `bench PAGE PLOT`, or `bench --stack` for the stack alone.
 
 use evidence::files::Made;
-use evidence::measure::{classes, growth, measure, Measured};
+use evidence::measure::{classes, growth, lengthening, measure, Measured};
 use evidence::{plot, stack, table};
 use std::path::Path;
 use std::process::ExitCode;
@@ -45,8 +45,10 @@ fn main() -> ExitCode {
         }
         [page, picture] => {
             let (classes, growth) = (measured(classes()), measured(growth()));
+            let lengthening = measured(lengthening());
             let name = Path::new(picture).file_name().unwrap_or_default();
-            let text = table::page(&classes, &growth, &stack::text(), &name.to_string_lossy());
+            let name = name.to_string_lossy();
+            let text = table::page(&classes, &growth, &lengthening, &stack::text(), &name);
             put(page, &text) && put(picture, &plot::plot(&growth))
         }
         _ => {
