@@ -4,6 +4,7 @@ use mathlib.Core.Path.{_≡_}
 use mathlib.Core.Logic.{_≢_}
 use mathlib.Core.List.{List}
 use lib.ListN.{length, getD}
+use Rattle.allotment.specs.Turns.{holderBy}
 
 -- no number stands twice among the first k of a list, and each is below n
 pub record Apart (who : List ℕ) (n k : ℕ) : Type 0 where
@@ -15,6 +16,11 @@ pub record Scattered (who : List ℕ) (value : ℕ → ℕ) (k : ℕ) (before af
   pub many : length after ≡ length before
   pub at : (q : ℕ) → q < k → getD after (getD who q 0) 0 ≡ value q
   pub off : (c : ℕ) → ((q : ℕ) → q < k → getD who q 0 ≢ c) → getD after c 0 ≡ getD before c 0
+
+-- the first k of a list have the steps chosen for them, of the institute with this number, and everybody else the seat from before
+abbrev pub SeatedAs : List ℕ → List ℕ → ℕ → ℕ → List ℕ → List ℕ → List ℕ → List ℕ → Type 0
+SeatedAs who chosen number k holders₀ steps₀ holders steps =
+    Scattered who (λ q. holderBy number (getD chosen q 0)) k holders₀ holders × Scattered who (λ q. getD chosen q 0) k steps₀ steps
 
 -- whoever is among the first k of a list and has no step is not below this number
 abbrev pub LeftFrom : List ℕ → List ℕ → ℕ → ℕ → Type 0

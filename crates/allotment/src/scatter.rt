@@ -1,9 +1,9 @@
 // What an institute chose, put into the tables of holders and steps.
 ghost use mathlib.Core.Path.{_≡_};
 ghost use Prim.Native.Nat.{_≤_};
-ghost use lib.ListN.{length, getD};
+ghost use lib.ListN.{length};
 ghost use Rattle.allotment.specs.Turns.{holderBy};
-ghost use Rattle.allotment.specs.Tables.{Apart, Scattered, LeftFrom};
+ghost use Rattle.allotment.specs.Tables.{Apart, SeatedAs, LeftFrom};
 
 // The holder by a step of the institute with a number.
 fn holder_by(number: u8, step: u8) -> u8
@@ -15,8 +15,8 @@ fn holder_by(number: u8, step: u8) -> u8
 // Seats each of the listed candidates as was chosen by the institute with a number.
 fn scatter(who: &[u16], chosen: &[u8], number: u8, holders: &mut [u8], steps: &mut [u8])
     requires { ⌜ (length (now chosen) ≡ length (now who)) × Apart (now who) (length (now holders)) (length (now who)) × (length (now steps) ≡ length (now holders)) ⌝ }
-    ensures { λ _. ⌜ Scattered (now (who .entry)) (λ q. holderBy number (getD (now (chosen .entry)) q 0)) (length (now (who .entry))) (now (holders .entry)) (now (holders .exit))
-        × Scattered (now (who .entry)) (λ q. getD (now (chosen .entry)) q 0) (length (now (who .entry))) (now (steps .entry)) (now (steps .exit)) ⌝ }
+    ensures { λ _. ⌜ SeatedAs (now (who .entry)) (now (chosen .entry)) number (length (now (who .entry)))
+        (now (holders .entry)) (now (steps .entry)) (now (holders .exit)) (now (steps .exit)) ⌝ }
 {
     for q in 0..who.len() {
         let c = who[q] as usize;
@@ -50,8 +50,8 @@ pub fn reseat(
     steps: &mut [u8],
 ) -> usize
     requires { ⌜ (length (now chosen) ≡ length (now who)) × Apart (now who) (length (now holders)) (length (now who)) × (length (now steps) ≡ length (now holders)) ⌝ }
-    ensures { λ r. ⌜ Scattered (now (who .entry)) (λ q. holderBy number (getD (now (chosen .entry)) q 0)) (length (now (who .entry))) (now (holders .entry)) (now (holders .exit))
-        × Scattered (now (who .entry)) (λ q. getD (now (chosen .entry)) q 0) (length (now (who .entry))) (now (steps .entry)) (now (steps .exit))
+    ensures { λ r. ⌜ SeatedAs (now (who .entry)) (now (chosen .entry)) number (length (now (who .entry)))
+        (now (holders .entry)) (now (steps .entry)) (now (holders .exit)) (now (steps .exit))
         × (r ≤ i) × LeftFrom (now (who .entry)) (now (chosen .entry)) (length (now (who .entry))) r ⌝ }
 {
     scatter(who, chosen, number, holders, steps);

@@ -1,4 +1,5 @@
-// One turn of the process: a candidate offers the best untried entry, and its institute chooses from what it holds and that offer.
+// One turn of the process: a candidate offers the best untried entry, and its institute chooses from that offer and those it holds that may
+// compete with it.
 use crate::gather::gather;
 use crate::scatter::reseat;
 use crate::table::narrow;
@@ -19,7 +20,8 @@ ghost use Rattle.allotment.specs.Held.{AtHand};
 ghost use Rattle.allotment.specs.Turns.{ChosenAnew, TurnTaken};
 ghost use Rattle.allotment.specs.Tables.{KeptBelow};
 
-// Institute j, from 0, chooses from what it holds and candidate i's new offer; returns a number, i's at most, below which nobody lost a seat.
+// Institute j, from 0, chooses from candidate i's new offer and those it holds that may compete with it; returns a number, i's at most, below
+// which nobody lost a seat.
 fn choose_anew(
     file: &[u8],
     h: Head,

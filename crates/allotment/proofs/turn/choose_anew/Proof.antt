@@ -159,8 +159,8 @@ returns c =
     let (anew, kept) = all-chosen (now (a .file)) (a .h) (a .j) (a .i) (a .new) (institute-sound known) (now (a .holders)) (now (a .steps))
     (g .gather .last .1 .1 .1 .1 .1 .1 .1 .1 .0) (g .gather .last .1 .1 .1 .1 .1 .1 .1 .1 .1 .0) (g .gather .last .1 .1 .1 .1 .1 .1 .1 .1 .1 .1 .0) (take (g .gather .result) (c .before .before .before .before .before .before .before .before .before .before .before .choose .last .1 .1 .1 .1 .1 .0 ++ drop (g .gather .result) (c .before .before .before .before .before .before .before .before .before .before .before .before .before .before .before .before .before .before .before .before .before .before .before .before .before .zeros3 .result))) (g .gather .result) (c .before .before .before .before .reseat .result)
     (g .gather .ensures) (omega (arith, few g, who-long g)) (omega (arith, few g, marks-long g)) (c .before .before .before .before .before .before .before .before .before .before .before .before .before .before .before .institute-body .ensures) (c .before .before .before .before .before .before .before .before .before .before .before .choose .ensures) (found-back (c .before .before .before .before .before .before .before .before .before .before .before))
-    (c .before .before .before .before .before .before .before .narrow .ensures ∙ add-one (a .j)) (done .0) (done .1) (done .3) in
-    (anew, done .2, kept)
+    (c .before .before .before .before .before .before .before .narrow .ensures ∙ add-one (a .j)) (done .0 .0) (done .0 .1) (done .2) in
+    (anew, done .1, kept)
 
 pub choose-anew-spec : {M : Type 1} → statement M
 choose-anew-spec =
