@@ -1,7 +1,7 @@
 -- Counting in sets of places, and the few facts on tests that the laws of the choice share.
 use Prim.Native.Nat.{ℕ, zero, suc, _+_, _-_, _≤_, _<_, min}
 use mathlib.Core.Path.{_≡_, refl}
-use mathlib.Core.Bool.{Bool, true, false, not, _&&_, _||_, true≢false, false≢true, and-eq-true-iff}
+use mathlib.Core.Bool.{Bool, true, false, not, _&&_, _||_, true≢false, false≢true}
 use native.Mathlib.Omega.{arith}
 use native.Mathlib.Decide.{ℕ-discrete}
 use lib.Dec.{ltb}
@@ -18,12 +18,6 @@ false-unless false h = refl
 
 pub clash : {A : Type 0} {b : Bool} → b ≡ true → b ≡ false → A
 clash {b} t f = let z : true ≡ false = cc in absurd (true≢false z)
-
-pub and-left : (a b : Bool) → (a && b) ≡ true → a ≡ true
-and-left a b e = and-eq-true-iff a b .0 e .0
-
-pub and-right : (a b : Bool) → (a && b) ≡ true → b ≡ true
-and-right a b e = and-eq-true-iff a b .0 e .1
 
 pub left-if-out : (y l : Bool) → y ≡ true → (y && not l) ≡ false → l ≡ true
 left-if-out y true e f = refl
