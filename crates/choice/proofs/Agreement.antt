@@ -14,7 +14,8 @@ use Rattle.round.specs.Round.{StepRule}
 use Rattle.round.specs.Lists.{sum}
 use Rattle.round.proofs.Words.{and-fst, and-snd}
 use Rattle.choice.specs.Choice.{Progress, considers, positionsAt, takenAt, vacantAt, advance, advanceAll, nothingDone, choose}
-use Rattle.choice.proofs.Sets.{false-unless, clash, left-if-out}
+use Rattle.choice.proofs.Counting.{clash, false-unless}
+use Rattle.choice.proofs.Sets.{left-if-out}
 use Rattle.choice.proofs.Filling.{TakesForUse, taken-within, taken-irrelevant}
 use Rattle.choice.proofs.Completion.{Lawful, Completing, positionsIn, takenIn, complete, completeAll, allLeft, completion, left-before, completion-within}
 use Rattle.choice.proofs.Offers.{Offers, WithinBelow, Alone, same, same-self, same-category}

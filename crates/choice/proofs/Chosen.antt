@@ -11,7 +11,7 @@ use Rattle.round.specs.Round.{StepRule}
 use Rattle.round.proofs.Words.{and-fst}
 use Rattle.choice.specs.Step.{raises, takenBefore, takenForUse, remaining, takenByMerit, taken}
 use Rattle.choice.specs.Choice.{Progress, considers, takenAt, advance, advanceAll, nothingDone, choose}
-use Rattle.choice.proofs.Sets.{clash}
+use Rattle.choice.proofs.Counting.{clash}
 use Rattle.choice.proofs.Offers.{Offers, same, same-self, same-category}
 use Rattle.choice.proofs.Tabulate.{length-tabulate, getD-tabulate, tabulate-bound, getD-zeros}
 

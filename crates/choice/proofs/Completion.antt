@@ -15,7 +15,8 @@ use Rattle.round.specs.Lists.{tabulate, count, sum}
 use Rattle.round.proofs.Words.{and-fst, and-snd}
 use Rattle.choice.specs.Step.{taken}
 use Rattle.choice.specs.Choice.{Progress, nothingDone}
-use Rattle.choice.proofs.Sets.{true-unless, clash, left-if-out, out-if-left, count-mono, count-cong, count-split}
+use Rattle.choice.proofs.Counting.{clash, true-unless, count-ext, count-le}
+use Rattle.choice.proofs.Sets.{left-if-out, out-if-left, count-split}
 use Rattle.choice.proofs.Offers.{Offers, Within, WithinBelow, same, same-category, offersIn, offers-split, same-by-offers, cutOffers, cut-in}
 use Rattle.choice.proofs.Filling.{TakesForUse, taken-within, taken-stays, taken-count}
 
@@ -91,7 +92,7 @@ cond-mono false v v' h = omega arith
 -- a part of the set leaves it, or nothing does
 count-leaving : (n : ℕ) (X T : ℕ → Bool) (b : Bool) → (b ≡ true → (p : ℕ) → p < n → T p ≡ true → X p ≡ true) → count n (λ p. X p && not (b && T p)) + cond b (count n T) 0 ≡ count n X
 count-leaving n X T true s = omega (arith, count-split n X T (s refl))
-count-leaving n X T false s = omega (arith, count-cong n (λ p. X p && true) X (λ p l. and-true (X p)))
+count-leaving n X T false s = omega (arith, count-ext n (λ p. X p && true) X (λ p l. and-true (X p)))
 
 one-category : (c : Category) (t : ℕ) → cond (same Open c) t 0 + cond (same SC c) t 0 + cond (same ST c) t 0 + cond (same OBC c) t 0 + cond (same EWS c) t 0 ≡ t
 one-category Open t = omega arith
@@ -179,7 +180,7 @@ module _ (marks : List ℕ) (taking : TakesForUse marks) where
           more k,
           step-count now,
           step-count now',
-          count-mono (length marks) (λ p. now .left p (rule .category)) (λ p. now' .left p (rule .category)) (λ p l. fewer p (rule .category)),
+          count-le (length marks) (λ p. now .left p (rule .category)) (λ p. now' .left p (rule .category)) (λ p l. fewer p (rule .category)),
         )
 
     step-handed : (j : ℕ) → complete marks k rule now' .done .handed j ≤ complete marks k rule now .done .handed j

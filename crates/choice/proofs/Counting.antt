@@ -31,8 +31,16 @@ below i n l less same = lessOr i n less (λ h. same (omega arith))
 pub and-true : (a b : Bool) → a ≡ true → b ≡ true → a && b ≡ true
 and-true a b e f = rw (e, f)
 
-pub not-both : (b : Bool) → b ≡ true → b ≡ false → ⊥
-not-both b e f = true≢false (sym e ∙ f)
+pub clash : {A : Type 0} {b : Bool} → b ≡ true → b ≡ false → A
+clash e f = absurd (true≢false (sym e ∙ f))
+
+pub true-unless : (b : Bool) → (b ≡ false → ⊥) → b ≡ true
+true-unless true h = refl
+true-unless false h = absurd (h refl)
+
+pub false-unless : (b : Bool) → (b ≡ true → ⊥) → b ≡ false
+false-unless true h = absurd (h refl)
+false-unless false h = refl
 
 -- two tests of which the second is passed wherever the first is
 pub contra : (a b : Bool) → (a ≡ true → b ≡ true) → b ≡ false → a ≡ false

@@ -11,8 +11,9 @@ use borrow.Author.Tests.{ltb-true, ltb-false, lt-ltb, le-ltb}
 use Rattle.round.specs.Lists.{count, sum}
 use Rattle.round.proofs.Words.{and-fst, and-snd}
 use Rattle.choice.specs.Step.{takenForUse, remaining, takenByMerit, taken}
+use Rattle.choice.proofs.Counting.{clash, true-unless, count-le}
 use Rattle.choice.proofs.TakingRule.{TakingRule}
-use Rattle.choice.proofs.Sets.{true-unless, clash, count-mono, same-by-count, count-split, count-join, count-best}
+use Rattle.choice.proofs.Sets.{same-by-count, count-split, count-join, count-best}
 
 -- H's places, and of the rest those whom H's places and the better ones of the rest leave one of q positions
 unfoldable pub filled : ℕ → ((ℕ → Bool) → ℕ → Bool) → ℕ → (ℕ → Bool) → ℕ → Bool
@@ -90,7 +91,7 @@ module _ (n bound : ℕ) (H : (ℕ → Bool) → ℕ → Bool) (law : TakingRule
       let full : q ≤ count n (H X) + count p (λ r. X r && not (H X r)) =
       ltb-false _ _ (out-of-rest (H X p) (X p) test x out) in
       let more : count p (λ r. X r && not (H X r)) ≤ count p (λ r. X' r && not (H X' r)) =
-      count-mono p (λ r. X r && not (H X r)) (λ r. X' r && not (H X' r)) (λ r m. rest-in (X r) (H X r) (X' r) (H X' r) (s r) (law .stays X X' s r)) in
+      count-le p (λ r. X r && not (H X r)) (λ r. X' r && not (H X' r)) (λ r m. rest-in (X r) (H X r) (X' r) (H X' r) (s r) (law .stays X X' s r)) in
       let still : q' ≤ count n (H X') + count p (λ r. X' r && not (H X' r)) = omega (arith, law .grows X X' s) in
       stays-out (H X' p) (X' p) _ (law .stays X X' s p x (out-of-rule (H X p) (X p) test out)) (le-ltb _ _ still)
 
@@ -115,7 +116,7 @@ module _ (n bound : ℕ) (H : (ℕ → Bool) → ℕ → Bool) (law : TakingRule
   filled-rule q enough = record {
     within = filled-within q;
     stays = filled-stays q q (omega arith);
-    grows = λ X X' s. omega (arith, filled-count q enough X, filled-count q enough X', count-mono n X X' (λ p l. s p));
+    grows = λ X X' s. omega (arith, filled-count q enough X, filled-count q enough X', count-le n X X' (λ p l. s p));
     fits = λ X. omega (arith, filled-count q enough X);
   }
 

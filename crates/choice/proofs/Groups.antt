@@ -9,8 +9,7 @@ use Rattle.round.specs.declared.entry.Category.{Category}
 use Rattle.round.specs.Round.{StepRule}
 use Rattle.round.proofs.Words.{and-fst}
 use Rattle.choice.specs.Choice.{Progress, considers, positionsAt, takenAt, vacantAt, advance, advanceAll, nothingDone, choose}
-use Rattle.choice.proofs.Counting.{test}
-use Rattle.choice.proofs.Sets.{clash, false-unless, count-cong}
+use Rattle.choice.proofs.Counting.{test, clash, false-unless, count-ext}
 use Rattle.choice.proofs.Offers.{Offers}
 use Rattle.choice.proofs.Below.{taken-below}
 use Rattle.choice.proofs.Chosen.{taken-considered}
@@ -52,7 +51,7 @@ module _ (marks : List ℕ) (K : Category → Bool) (P : ℕ → Bool) (Y Y' : O
 
     same-vacant : K (rule .category) ≡ true → P k ≡ true → vacantAt marks Y' k rule done' ≡ vacantAt marks Y k rule done
     unfolding vacantAt
-    same-vacant g h = rw (same-positions h, count-cong (length marks) _ _ (same-taken g h))
+    same-vacant g h = rw (same-positions h, count-ext (length marks) _ _ (same-taken g h))
 
   -- a step outside the group takes no place that has an offer of the group
   none-taken : (Z : Offers) → Separate (length marks) K Z → (k : ℕ) (rule : StepRule) (done : Progress) → K (rule .category) ≡ false
