@@ -33,15 +33,15 @@ same c d = eqb (codeOf c) (codeOf d)
 pub same-self : (c : Category) → same c c ≡ true
 same-self c = eq-eqb (codeOf c) (codeOf c) refl
 
+pub category-code : (c : Category) → categoryOf (codeOf c) ≡ c
+category-code Open = refl
+category-code SC = refl
+category-code ST = refl
+category-code OBC = refl
+category-code EWS = refl
+
 pub same-category : (c d : Category) → same c d ≡ true → c ≡ d
-same-category c d e = sym (back c) ∙ ap categoryOf (eqb-true (codeOf c) (codeOf d) e) ∙ back d
-  where
-    back : (c : Category) → categoryOf (codeOf c) ≡ c
-    back Open = refl
-    back SC = refl
-    back ST = refl
-    back OBC = refl
-    back EWS = refl
+same-category c d e = sym (category-code c) ∙ ap categoryOf (eqb-true (codeOf c) (codeOf d) e) ∙ category-code d
 
 -- how many offers the set has, of the places below n
 unfoldable pub offersIn : ℕ → Offers → ℕ

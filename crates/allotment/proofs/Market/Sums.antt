@@ -5,7 +5,7 @@ use mathlib.Core.Logic.{_≢_}
 use Prim.Native.Nat.{ℕ, zero, suc, _+_, _≤_, _<_}
 use native.Mathlib.Omega.{arith}
 use native.Mathlib.Decide.{ℕ-discrete}
-use Rattle.allotment.proofs.Market.Tests.{is-false}
+use Rattle.choice.proofs.Counting.{false-unless}
 
 unfoldable pub sum : ℕ → (ℕ → ℕ) → ℕ
 sum zero f = 0
@@ -79,7 +79,7 @@ count-one zero f h = omega arith
 count-one (suc k) f h = go (f k) refl (count-one k f h)
   where
     go : (b : Bool) → f k ≡ b → count k f ≤ 1 → count (suc k) f ≤ 1
-    go true t c = omega (arith, ap bit t, count-none k f (λ i l. is-false (f i) (λ q. omega (arith, h i k q t))))
+    go true t c = omega (arith, ap bit t, count-none k f (λ i l. false-unless (f i) (λ q. omega (arith, h i k q t))))
     go false t c = omega (arith, ap bit t)
 
 bit-le : (a b : Bool) → (a ≡ true → b ≡ true) → bit a ≤ bit b

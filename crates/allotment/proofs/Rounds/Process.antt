@@ -13,9 +13,9 @@ use Rattle.round.specs.Lists.{first}
 use Rattle.round.specs.Round.{Round}
 use Rattle.round.specs.Sound.{Sound}
 use Rattle.round.proofs.Words.{and-fst, and-snd, and-no}
+use Rattle.choice.proofs.Counting.{clash}
 use Rattle.allotment.specs.Rows.{rowAt}
 use Rattle.allotment.specs.Process.{noSeat, isNone, candidateCount, seatsAfter, mayOffer, turn, turns, entryTotal, tried, offersMade}
-use Rattle.allotment.proofs.Market.Tests.{clash}
 use Rattle.allotment.proofs.Market.Sums.{sum, sum-le}
 use Rattle.allotment.proofs.Market.Laws.{Unheld}
 use Rattle.allotment.proofs.Market.Reached.{start, step, Served, Closed, Final, zeros, set-turned, turned-sum, reached-fits}

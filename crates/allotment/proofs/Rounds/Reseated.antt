@@ -12,10 +12,10 @@ use borrow.Author.Tests.{eqb-true, eqb-false, eq-eqb, ne-eqb}
 use Rattle.round.specs.declared.entry.Category.{Category}
 use Rattle.round.specs.Round.{Round}
 use Rattle.round.specs.Sound.{Sound}
+use Rattle.choice.proofs.Counting.{clash}
 use Rattle.allotment.specs.Rows.{categoryAt}
 use Rattle.allotment.specs.Offers.{OfferSet, placeOn, stepsOn, stepFor}
 use Rattle.allotment.specs.Process.{Seat, noSeat, candidateCount, instituteCount, madeTo, seatsAfter, mayOffer}
-use Rattle.allotment.proofs.Market.Tests.{clash}
 use Rattle.allotment.proofs.Rounds.Places.{meritLength}
 use Rattle.allotment.proofs.Rounds.Agreed.{step-absent}
 use Rattle.allotment.proofs.Rounds.Running.{Running}

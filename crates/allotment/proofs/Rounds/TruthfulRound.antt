@@ -14,12 +14,12 @@ use Rattle.round.specs.Category.{categoryOf}
 use Rattle.round.specs.Round.{Candidate, Institute, Round}
 use Rattle.round.specs.Places.{candidateAt, instituteAt, stepAt, noCandidate, noInstitute}
 use Rattle.round.specs.Sound.{Sound}
+use Rattle.choice.proofs.Counting.{clash}
 use Rattle.choice.proofs.Completion.{completion}
 use Rattle.allotment.specs.Rows.{rowAt, rankIn, entryOf}
 use Rattle.allotment.specs.Offers.{candidateOn, placeOn}
 use Rattle.allotment.specs.Process.{noSeat, candidateCount, instituteCount, madeTo, tried, seats}
 use Rattle.allotment.specs.Standing.{standing}
-use Rattle.allotment.proofs.Market.Tests.{clash}
 use Rattle.allotment.proofs.Market.Laws.{Offers}
 use Rattle.allotment.proofs.Market.Update.{split-at}
 use Rattle.allotment.proofs.Market.Rows.{Alike, offers}

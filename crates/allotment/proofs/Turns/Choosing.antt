@@ -26,13 +26,12 @@ use Rattle.round.proofs.Sound.{institute-at, length-institutes}
 use Rattle.choice.specs.Choice.{choose}
 use Rattle.choice.specs.Offers.{offeredBy}
 use Rattle.choice.specs.Gathers.{Gathers}
-use Rattle.choice.proofs.Counting.{test}
+use Rattle.choice.proofs.Counting.{test, clash}
 use Rattle.choice.proofs.Groups.{Closed}
 use Rattle.choice.proofs.Fewer.{Same, number-below, choose-gathered}
 use Rattle.allotment.specs.Offers.{candidateOn, placeOn, stepsOn, stepFor}
 use Rattle.allotment.specs.Turns.{stepOffer, rivalOf, marksOf, offersBy, holderBy, offersAt, takesPart, Gathered, Reseated, ChosenAnew, TurnTaken}
 use Rattle.allotment.specs.Tables.{Apart, Scattered, LeftFrom, KeptBelow}
-use Rattle.allotment.proofs.Market.Tests.{clash}
 use Rattle.allotment.proofs.Rounds.Places.{meritLength, candidate-at, candidate-below, place-of}
 use Rattle.allotment.proofs.Rounds.Completed.{marksOn, atPlaces}
 use Rattle.allotment.proofs.Turns.Groups.{Group, Parted}

@@ -11,12 +11,12 @@ use Rattle.round.specs.declared.entry.Category.{Category}
 use Rattle.round.specs.Category.{codeOf}
 use Rattle.round.specs.Round.{Round}
 use Rattle.round.specs.Places.{instituteAt}
-use Rattle.choice.proofs.Counting.{test}
+use Rattle.choice.proofs.Counting.{test, clash}
 use Rattle.choice.proofs.Groups.{Closed, choose-group}
 use Rattle.allotment.specs.Offers.{candidateOn, placeOn, stepsOn, stepFor}
 use Rattle.allotment.specs.Process.{instituteCount}
 use Rattle.allotment.specs.Turns.{stepOffer, shares, compete, offersBy}
-use Rattle.allotment.proofs.Market.Tests.{clash, same-test}
+use Rattle.allotment.proofs.Market.Tests.{same-test}
 use Rattle.allotment.proofs.Rounds.Places.{meritLength, candidate-at}
 use Rattle.allotment.proofs.Rounds.Completed.{marksOn, atPlaces}
 use Rattle.allotment.proofs.Rounds.Agreed.{step-absent}

@@ -13,13 +13,12 @@ use Rattle.round.specs.declared.entry.Category.{Category}
 use Rattle.round.specs.Category.{codeOf}
 use Rattle.round.specs.Round.{Round}
 use Rattle.round.proofs.Words.{and-fst, and-snd}
-use Rattle.choice.proofs.Counting.{test}
+use Rattle.choice.proofs.Counting.{test, clash}
 use Rattle.allotment.specs.Rows.{categoryAt}
 use Rattle.allotment.specs.Offers.{placeOn, stepFor}
 use Rattle.allotment.specs.Process.{candidateCount, madeTo, seatsAfter}
 use Rattle.allotment.specs.Stable.{given}
 use Rattle.allotment.specs.Turns.{stepOffer, offerOf, compete, rivalOf, offersBy, holderBy, takesPart, Reseated, ChosenAnew}
-use Rattle.allotment.proofs.Market.Tests.{clash}
 use Rattle.allotment.proofs.Market.Update.{split-at}
 use Rattle.allotment.proofs.Rounds.Places.{meritLength}
 use Rattle.allotment.proofs.Rounds.Completed.{completed, completed-within}
