@@ -13,7 +13,7 @@ use Rattle.round.specs.Round.{Round}
 use Rattle.round.specs.Places.{instituteAt}
 use Rattle.round.specs.Sound.{SoundInstitute, Sound}
 use Rattle.round.proofs.Words.{length-tabulate}
-use Rattle.choice.specs.Use.{greatest}
+use Rattle.choice.proofs.Counting.{greatest-below}
 use Rattle.allotment.specs.Offers.{candidateOn, placeOn}
 use Rattle.allotment.specs.Process.{Seat, noSeat, candidateCount, instituteCount, madeTo, chosen, seatBy, seatsAfter, tried, seats}
 use Rattle.allotment.specs.Areas.{seatIs, closingPlace}
@@ -29,11 +29,6 @@ sum-ones : (k : ℕ) → sum k (λ i. 1) ≡ k
 unfolding sum
 sum-ones zero = refl
 sum-ones (suc k) = omega (arith, sum-ones k)
-
-greatest-most : (n : ℕ) (f : ℕ → ℕ) (b : ℕ) → ((p : ℕ) → p < n → f p ≤ b) → greatest n f ≤ b
-unfolding greatest
-greatest-most zero f b h = omega arith
-greatest-most (suc n) f b h = omega (arith, h n (omega arith), greatest-most n f b (λ p l. h p (omega arith)))
 
 -- a merit list is no longer than the list of candidates
 pub merit-short : (r : Round) (j : ℕ) {n types : ℕ} → SoundInstitute n types (instituteAt r j) → meritLength r j ≤ n
@@ -72,7 +67,7 @@ closing-most {r = r} sound list j k hj =
     omega (
       arith,
       merit-short r j (sound .institute j hj),
-      greatest-most (meritLength r j) _ (meritLength r j) (λ p l. place p (seatIs (getD list (candidateOn r j p) noSeat) (suc j) k) l),
+      greatest-below (meritLength r j) _ (meritLength r j) (λ p l. place p (seatIs (getD list (candidateOn r j p) noSeat) (suc j) k) l),
     )
   where
     place : (p : ℕ) (b : Bool) → p < meritLength r j → cond b (suc p) 0 ≤ meritLength r j

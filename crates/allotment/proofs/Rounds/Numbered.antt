@@ -16,7 +16,7 @@ use Rattle.round.specs.Places.{candidateAt, entryAt, noEntry}
 use Rattle.round.specs.Sound.{SoundCandidate}
 use Rattle.round.proofs.Words.{and-fst, and-snd}
 use Rattle.round.proofs.Sound.{code-category}
-use Rattle.choice.proofs.Offers.{same-self, same-category}
+use Rattle.choice.proofs.Offers.{same-self, category-code, same-category}
 use Rattle.allotment.specs.Rows.{rowAt, rankIn, entryOf, sameEntry}
 use Rattle.allotment.proofs.Market.Rows.{Row, Ranked, Rows}
 
@@ -33,13 +33,6 @@ code-small SC = omega arith
 code-small ST = omega arith
 code-small OBC = omega arith
 code-small EWS = omega arith
-
-category-code : (c : Category) → categoryOf (codeOf c) ≡ c
-category-code Open = refl
-category-code SC = refl
-category-code ST = refl
-category-code OBC = refl
-category-code EWS = refl
 
 pub number-institute : (j : ℕ) (c : Category) → numberOf j c / 5 ≡ j
 number-institute j c = omega (arith, code-small c)

@@ -14,11 +14,12 @@ use Rattle.round.specs.Round.{Round}
 use Rattle.round.specs.Sound.{Sound}
 use Rattle.round.proofs.Words.{and-fst, and-snd, and-no}
 use Rattle.choice.proofs.Counting.{clash}
+use Rattle.choice.proofs.Tabulate.{getD-zeros}
 use Rattle.allotment.specs.Rows.{rowAt}
 use Rattle.allotment.specs.Process.{noSeat, isNone, candidateCount, seatsAfter, mayOffer, turn, turns, entryTotal, tried, offersMade}
 use Rattle.allotment.proofs.Market.Sums.{sum, sum-le}
 use Rattle.allotment.proofs.Market.Laws.{Unheld}
-use Rattle.allotment.proofs.Market.Reached.{start, step, Served, Closed, Final, zeros, set-turned, turned-sum, reached-fits}
+use Rattle.allotment.proofs.Market.Reached.{start, step, Served, Closed, Final, set-turned, turned-sum, reached-fits}
 use Rattle.allotment.proofs.Market.AnyOrder as AnyOrder
 use Rattle.allotment.proofs.Rounds.Numbered.{numberOf, rowBy, rowsOf}
 use Rattle.allotment.proofs.Rounds.First.{first-passes, first-before}
@@ -31,7 +32,7 @@ module _ (r : Round) where
   pub start-running : Running r (replicate (candidateCount r) 0)
   start-running = record {
     each = length-replicate (candidateCount r) 0;
-    reached = start (zeros (candidateCount r));
+    reached = start (getD-zeros (candidateCount r));
   }
 
 -- candidate i has a turn
@@ -76,7 +77,7 @@ pub unseated-none : {r : Round} {state : List ℕ} {i : ℕ} → Unseated r stat
 unseated-none s = ap isNone (s .seat)
 
 -- nothing changes any more
-turns-still : (r : Round) (k : ℕ) (state : List ℕ) → turn r state ≡ state → turns r k state ≡ state
+pub turns-still : (r : Round) (k : ℕ) (state : List ℕ) → turn r state ≡ state → turns r k state ≡ state
 unfolding turns
 turns-still r zero state e = refl
 turns-still r (suc k) state e = ap (turns r k) e ∙ turns-still r k state e

@@ -1,7 +1,7 @@
 -- A turn begins: the tables hold the seats, each seat stands for an offer, and candidate i's new one joins them.
 use Prim.Native.Nat.{ℕ, suc, _≤_, _<_}
 use mathlib.Core.Path.{_≡_, refl, sym, _∙_, ap}
-use mathlib.Core.Bool.{Bool, true, false, _&&_, _||_}
+use mathlib.Core.Bool.{Bool, true, false, _&&_, or-false}
 use mathlib.Core.Logic.{_≢_, _⊎_, inl, inr}
 use mathlib.Core.List.{List}
 use native.Mathlib.Omega.{arith}
@@ -86,10 +86,6 @@ eqb-suc a b = go (eqb a b) refl
 
 pub seat-eq : {a b x y : ℕ} → a ≡ x → b ≡ y → _≡_ {A = Seat} (record { institute = a; step = b }) (record { institute = x; step = y })
 seat-eq p q k = record { institute = p k; step = q k }
-
-or-none : (b : Bool) → (b || false) ≡ b
-or-none true = refl
-or-none false = refl
 
 -- the categories of the steps of each institute are those of document 01's step numbers
 abbrev pub Coded : Round → Type 0
@@ -203,7 +199,7 @@ module _ {types : ℕ} {r : Round} {state : List ℕ} {i : ℕ} {holders steps :
             ap (λ x. eqb x (suc (codeOf c))) offer-new ∙ eqb-suc (codeOf (newEntry r state i .category)) (codeOf c) ∙ sym back
 
         there : (p : ℕ) → p ≢ i → p < candidateCount r → offersBy offer p c ≡ heldAndNew r state i j p c
-        there p d h = given-is p d h c ∙ sym (rw (ne-eqb p i d) (or-none (given r (seatsAfter r state) j p c)))
+        there p d h = given-is p d h c ∙ sym (rw (ne-eqb p i d) (or-false (given r (seatsAfter r state) j p c)))
 
     pub institute-inside : j < instituteCount r
     unfolding mayOffer

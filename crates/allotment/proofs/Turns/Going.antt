@@ -27,7 +27,7 @@ use Rattle.allotment.proofs.Rounds.Numbered.{rowsOf, row-length}
 use Rattle.allotment.proofs.Rounds.First.{first-within, first-passes, first-before, first-least, first-none}
 use Rattle.allotment.proofs.Rounds.Running.{stateOf, Running}
 use Rattle.allotment.proofs.Rounds.Seats.{stepIn, Seated, Unseated, seat-of}
-use Rattle.allotment.proofs.Rounds.Process.{start-running, advanced, turn-running, turn-sum, may-offer}
+use Rattle.allotment.proofs.Rounds.Process.{start-running, advanced, turn-running, turn-sum, turns-still, may-offer}
 use Rattle.allotment.proofs.Rounds.Counted.{entries, state-sum, state-most}
 use Rattle.allotment.proofs.Rounds.Turn.{newEntry}
 use Rattle.allotment.proofs.Rounds.Bounds.{seats-length}
@@ -51,11 +51,6 @@ first-same n f g same = elim (decLt (first n g) n) [
   | no l ↦
       first-none n f (λ k m. same k m ∙ first-before n g k (omega arith)) ∙ (let e : n ≡ first n g = omega (arith, first-within n g) in e)
 ]
-
-turns-still : (r : Round) (k : ℕ) (state : List ℕ) → turn r state ≡ state → turns r k state ≡ state
-unfolding turns
-turns-still r zero state e = refl
-turns-still r (suc k) state e = ap (turns r k) e ∙ turns-still r k state e
 
 sum-sixteens : (k : ℕ) → sum k (λ i. 16) ≡ 16 * k
 unfolding sum

@@ -1,9 +1,9 @@
 -- What is known of an accepted file whose head and starts of records are at hand.
-use mathlib.Core.Path.{_≡_, refl, sym, _∙_, ap}
-use mathlib.Core.List.{List, _∷_}
-use Prim.Native.Nat.{ℕ, zero, suc, _-_, _≤_, _<_}
+use mathlib.Core.Path.{_≡_, sym, _∙_, ap}
+use mathlib.Core.List.{List}
+use Prim.Native.Nat.{ℕ, _-_, _≤_, _<_}
 use native.Mathlib.Omega.{arith}
-use lib.ListN.{length, take, replicate, length-replicate}
+use lib.ListN.{length, replicate, length-replicate}
 use Rattle.round.specs.declared.entry.Entry.{Entry}
 use Rattle.round.specs.declared.head.Head.{Head as CodeHead}
 use Rattle.round.specs.Records.{Head, headOf}
@@ -98,9 +98,3 @@ module _ {file : List ℕ} {h : CodeHead} {candidates merits : List ℕ} (at : A
 -- a table of zeros has its length
 pub sized : (n : ℕ) {table : List ℕ} → table ≡ replicate n 0 → length table ≡ n
 sized n e = ap length e ∙ length-replicate n 0
-
--- the first zeros of a table of zeros
-pub front-zeros : (m n : ℕ) → m ≤ n → take m (replicate n zero) ≡ replicate m zero
-front-zeros zero n l = refl
-front-zeros (suc m) zero l = absurd (omega arith)
-front-zeros (suc m) (suc n) l = ap (λ (t : List ℕ). zero ∷ t) (front-zeros m n (omega arith))

@@ -6,8 +6,9 @@ use native.Mathlib.Omega.{arith}
 use lib.ListN.{take, replicate}
 use lib.Seq.{length-take-le}
 use Rattle.round.specs.declared.head.Head.{Head}
+use Rattle.choice.proofs.Steps.{take-replicate}
 use Rattle.allotment.specs.Held.{AtHand}
-use Rattle.allotment.proofs.Turns.Known.{round-sound, candidates-many, sized, front-zeros}
+use Rattle.allotment.proofs.Turns.Known.{round-sound, candidates-many, sized}
 use borrow.Author.Needs.{needs}
 use Rattle.allotment.proofs.process.run_offers.Statement.{statement}
 use Rattle.allotment.proofs.process.run_offers.Tie as tie
@@ -36,7 +37,7 @@ take-turns-requires c κs =
     let pre = c .before .before .before .before .before .before .before .before .before .before .before .before .before .before .before .before .before .pre in (
       pre .0,
       (
-        ap (λ (t : List ℕ). take (a .h .candidates) t) (c .before .before .before .zeros .ensures) ∙ front-zeros (a .h .candidates) 512 (candidates-few (pre .0)),
+        ap (λ (t : List ℕ). take (a .h .candidates) t) (c .before .before .before .zeros .ensures) ∙ take-replicate (a .h .candidates) 512 (candidates-few (pre .0)),
         c .before .before .before .before .before .before .before .before .before .before .clear .ensures ∙ ap (λ n. replicate n 0) (pre .1 .0),
         c .before .before .before .before .before .before .clear2 .ensures ∙ ap (λ n. replicate n 0) (pre .1 .1),
       ),
