@@ -6,7 +6,7 @@ use Prim.Native.Nat.{ℕ, _≤_, _<_}
 use native.Mathlib.Omega.{arith}
 use lib.Dec.{eqb}
 use borrow.Author.Tests.{eqb-true, eq-eqb}
-use Rattle.allotment.proofs.Market.Sums.{bit}
+use Rattle.round.specs.Lists.{bit}
 use Rattle.allotment.proofs.Market.Laws.{Offers, _⊆_, Market, kept}
 use Rattle.allotment.proofs.Market.Update.{put, put-here, put-elsewhere, split-at}
 use Rattle.allotment.proofs.Market.Rows.{Row, Rows, Alike, State, offers, offered, tried}

@@ -3,8 +3,9 @@ use mathlib.Core.Path.{_≡_, sym, _∙_, ap}
 use mathlib.Core.Bool.{true}
 use Prim.Native.Nat.{ℕ, _<_}
 use native.Mathlib.Omega.{arith}
+use Rattle.round.specs.Lists.{bit}
 use Rattle.choice.proofs.Counting.{false-unless}
-use Rattle.allotment.proofs.Market.Sums.{sum, count, bit, sum-le, sum-same}
+use Rattle.allotment.proofs.Market.Sums.{sum, count, sum-le, sum-same}
 use Rattle.allotment.proofs.Market.DoubleSums.{sum-swap, sum-only}
 use Rattle.allotment.proofs.Market.Laws.{Offers, Market, total}
 

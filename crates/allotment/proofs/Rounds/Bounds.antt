@@ -12,12 +12,13 @@ use borrow.Author.Tests.{lt-ltb, le-ltb}
 use Rattle.round.specs.Round.{Round}
 use Rattle.round.specs.Places.{instituteAt}
 use Rattle.round.specs.Sound.{SoundInstitute, Sound}
+use Rattle.round.specs.Lists.{bit}
 use Rattle.round.proofs.Words.{length-tabulate}
-use Rattle.choice.proofs.Counting.{greatest-below}
+use Rattle.choice.proofs.Counting.{bit-max, greatest-below}
 use Rattle.allotment.specs.Offers.{candidateOn, placeOn}
 use Rattle.allotment.specs.Process.{Seat, noSeat, candidateCount, instituteCount, madeTo, chosen, seatBy, seatsAfter, tried, seats}
 use Rattle.allotment.specs.Areas.{seatIs, closingPlace}
-use Rattle.allotment.proofs.Market.Sums.{sum, bit, sum-le, sum-same}
+use Rattle.allotment.proofs.Market.Sums.{sum, sum-le, sum-same}
 use Rattle.allotment.proofs.Market.DoubleSums.{sum-through}
 use Rattle.allotment.proofs.Rounds.Places.{meritLength, candidate-at, candidate-below, place-of}
 use Rattle.allotment.proofs.Rounds.Agreed.{step-number}
@@ -36,7 +37,7 @@ merit-short r j {n} sound =
     omega (
       arith,
       through,
-      sum-le n on (λ i. 1) (λ i l. few i (ltb (placeOn r j i) (meritLength r j))),
+      sum-le n on (λ i. 1) (λ i l. bit-max (ltb (placeOn r j i) (meritLength r j))),
       sum-same (meritLength r j) (λ p. on (candidateOn r j p)) (λ p. 1) there,
       sum-ones n,
       sum-ones (meritLength r j),
@@ -44,10 +45,6 @@ merit-short r j {n} sound =
   where
     on : ℕ → ℕ
     on i = bit (ltb (placeOn r j i) (meritLength r j))
-
-    few : ℕ → (b : Bool) → bit b ≤ 1
-    few i true = omega arith
-    few i false = omega arith
 
     there : (p : ℕ) → p < meritLength r j → on (candidateOn r j p) ≡ 1
     there p l = ap bit (lt-ltb _ (meritLength r j) (omega (arith, place-of r j sound p l)))

@@ -9,10 +9,11 @@ use Rattle.round.specs.declared.entry.Category.{Category}
 use Rattle.round.specs.Category.{categoryOf}
 use Rattle.round.specs.Round.{Round}
 use Rattle.round.specs.Sound.{Sound}
+use Rattle.round.specs.Lists.{bit}
 use Rattle.round.proofs.Words.{and-fst, and-snd}
 use Rattle.allotment.specs.Offers.{OfferSet}
 use Rattle.allotment.specs.Process.{candidateCount, instituteCount}
-use Rattle.allotment.proofs.Market.Sums.{sum, count, bit, sum-le, sum-same}
+use Rattle.allotment.proofs.Market.Sums.{sum, count, sum-le, sum-same}
 use Rattle.allotment.proofs.Market.DoubleSums.{sum-swap}
 use Rattle.allotment.proofs.Market.Laws.{Offers, Market, total}
 use Rattle.allotment.proofs.Rounds.Numbered.{numberOf, code-small, number-institute, number-category, number-back}
