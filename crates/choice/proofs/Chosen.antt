@@ -32,12 +32,6 @@ under-some (rule ∷ rules) zero l m = absurd (omega arith)
 under-some (rule ∷ rules) (suc zero) l m = (rule .category, same-self (rule .category))
 under-some (rule ∷ rules) (suc (suc k)) l m = under-some rules (suc k) (omega arith) (omega arith)
 
-pub under-one : (rules : List StepRule) (k : ℕ) (c d : Category) → takenUnder rules k c ≡ true → takenUnder rules k d ≡ true → c ≡ d
-under-one [] k c d e f = clash e refl
-under-one (rule ∷ rules) zero c d e f = clash e refl
-under-one (rule ∷ rules) (suc zero) c d e f = same-category c (rule .category) e ∙ sym (same-category d (rule .category) f)
-under-one (rule ∷ rules) (suc (suc k)) c d e f = under-one rules (suc k) c d e f
-
 is-considered : (x r t : Bool) → ((x && r) || (x && not (x && r) && t)) ≡ true → x ≡ true
 is-considered true r t e = refl
 is-considered false r t e = e

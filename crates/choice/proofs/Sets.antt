@@ -20,7 +20,7 @@ out-if-left false true e = refl
 out-if-left true false e = clash e refl
 out-if-left false false e = refl
 
-pub count-strict : (n : ℕ) (X Y : ℕ → Bool) → ((p : ℕ) → p < n → X p ≡ true → Y p ≡ true) → (p : ℕ) → p < n → X p ≡ false → Y p ≡ true → count n X < count n Y
+count-strict : (n : ℕ) (X Y : ℕ → Bool) → ((p : ℕ) → p < n → X p ≡ true → Y p ≡ true) → (p : ℕ) → p < n → X p ≡ false → Y p ≡ true → count n X < count n Y
 count-strict zero X Y h p l f t = absurd (omega arith)
 count-strict (suc n) X Y h p l f t =
     go (ℕ-discrete p n) (λ below. count-strict n X Y (λ r m. h r (omega arith)) p below f t)

@@ -56,7 +56,3 @@ module _ {n : ℕ} {Ch : Offers → Offers} {rows : Rows} where
   reached-fits (start z) j = omega (arith, z j)
   reached-fits (step {u = u} i r l f h s) j =
       split-at (λ j. u j ≤ rows j .len) i (omega arith) (λ j d. omega (arith, s .elsewhere j d, reached-fits r j)) j
-
-  pub reached-outside : {t : State} → Reached n Ch rows t → (j : ℕ) → n ≤ j → t j ≡ 0
-  reached-outside (start z) j m = z j
-  reached-outside (step i r l f h s) j m = s .elsewhere j (λ p. omega arith) ∙ reached-outside r j m

@@ -31,7 +31,7 @@ sum-zero zero f h = refl
 sum-zero (suc k) f h = omega (arith, sum-zero k f (λ i l. h i (omega arith)), h k (omega arith))
 
 -- one summand is no more than the sum
-pub sum-at : (k : ℕ) (f : ℕ → ℕ) (j : ℕ) → j < k → f j ≤ sum k f
+sum-at : (k : ℕ) (f : ℕ → ℕ) (j : ℕ) → j < k → f j ≤ sum k f
 unfolding sum
 sum-at zero f j l = absurd (omega arith)
 sum-at (suc k) f j l =

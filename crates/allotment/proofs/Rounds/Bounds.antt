@@ -76,7 +76,7 @@ unfolding seatsAfter
 seats-length r state = length-tabulate 0 (candidateCount r) (seatBy r (chosen r state))
 
 module _ {types : ℕ} {r : Round} (sound : Sound types r) {state : List ℕ} (run : Running r state) (i : ℕ) where
-  pub seat-small : (getD (seatsAfter r state) i noSeat .institute ≤ 32) × (getD (seatsAfter r state) i noSeat .step ≤ 6)
+  seat-small : (getD (seatsAfter r state) i noSeat .institute ≤ 32) × (getD (seatsAfter r state) i noSeat .step ≤ 6)
   seat-small = elim (decLt i (candidateCount r)) [
     | yes l ↦ go (seat-of sound run i l)
     | no l ↦ none (List·getD-eq-default (seatsAfter r state) noSeat (omega (arith, seats-length r state)))

@@ -52,7 +52,7 @@ module _ (r : Round) where
       let l : numberOf j c < entryBound = omega (arith, code-small c) in
       rw (lt-ltb i (candidateCount r) hi, lt-ltb (numberOf j c) entryBound l, number-institute j c, number-category j c)
 
-  pub choice-back : (O : Offers) (i e : ℕ) → choiceOf O i e ≡ true → completed r (e / 5) (offersTo O (e / 5)) i (categoryOf (e % 5)) ≡ true
+  choice-back : (O : Offers) (i e : ℕ) → choiceOf O i e ≡ true → completed r (e / 5) (offersTo O (e / 5)) i (categoryOf (e % 5)) ≡ true
   unfolding choiceOf
   choice-back O i e t = and-snd (ltb e entryBound) _ (and-snd (ltb i (candidateCount r)) _ t)
 

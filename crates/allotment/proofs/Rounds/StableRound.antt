@@ -58,7 +58,7 @@ module _ {types : ℕ} {r : Round} (sound : Sound types r) where
     unfolding seats
     given-made i hi c t = held-made sound run i j c (sym (given-held sound run i j hi hj c) ∙ t)
 
-    pub seats-kept : (i : ℕ) → i < candidateCount r → stepFor r j (given r (seats r) j) i ≡ stepOf r (seats r) j i
+    seats-kept : (i : ℕ) → i < candidateCount r → stepFor r j (given r (seats r) j) i ≡ stepOf r (seats r) j i
     unfolding seats stepFor
     seats-kept i hi =
         ap (λ (l : List ℕ). getD l (placeOn r j i) 0) (steps-with-seats (given r (seats r) j) given-made (λ k hk c t. t))
@@ -128,7 +128,7 @@ module _ {types : ℕ} {r : Round} (sound : Sound types r) where
           ∙ taken-held sound run i j c hi hj
           ∙ sym (given-held sound run i j hi hj c)
 
-      pub set-unblocked : (Same r set (given r (seats r) j) → ⊥) → WouldChoose r (seats r) j set → SomeBelow r (seats r) j set
+      set-unblocked : (Same r set (given r (seats r) j) → ⊥) → WouldChoose r (seats r) j set → SomeBelow r (seats r) j set
       unfolding SomeBelow below
       set-unblocked other would = go (some-below (5 * candidateCount r) (λ e. below (e / 5) (categoryOf (e % 5))))
         where

@@ -47,7 +47,7 @@ choiceBy r n marks O i e =
     (λ p c. O (candidateOn r (e / 5) p) (numberOf (e / 5) c)) (placeOn r (e / 5) i) (categoryOf (e % 5))))
 
 -- rounds with the same institutes, and so many candidates with the same marks, are one market
-pub same-choice : (r r' : Round) → r .institutes ≡ r' .institutes → candidateCount r ≡ candidateCount r'
+same-choice : (r r' : Round) → r .institutes ≡ r' .institutes → candidateCount r ≡ candidateCount r'
     → ((k : ℕ) → candidateAt r k .marks ≡ candidateAt r' k .marks) → choiceOf r ≡ choiceOf r'
 unfolding choiceBy choiceOf completed placeOn
 same-choice r r' institutes number marks =

@@ -82,7 +82,7 @@ module _ {types : ℕ} {r : Round} (sound : Sound types r) {state : List ℕ} (r
     abbrev category : Category
     category = newEntry r state i .category
 
-    pub institute-inside : j < instituteCount r
+    institute-inside : j < instituteCount r
     institute-inside = omega (arith, sound .candidate i hi .entry-to (getD state i 0) short)
 
     law : Ranked (rowsOf r i)

@@ -162,7 +162,7 @@ module _ {types : ℕ} {r : Round} {state : List ℕ} {i : ℕ} {holders steps :
     unfolding given
     given-not p c d = rw (ne-eqb (seat p .institute) (suc j) d)
 
-    pub given-there : (p : ℕ) (c : Category) → j < instituteCount r → stepIn r state j p ≢ 0 → seat p ≡ record { institute = suc j; step = stepIn r state j p }
+    given-there : (p : ℕ) (c : Category) → j < instituteCount r → stepIn r state j p ≢ 0 → seat p ≡ record { institute = suc j; step = stepIn r state j p }
         → given r (seatsAfter r state) j p c ≡ sameCategory (categoryAt r j (stepIn r state j p)) c
     unfolding given
     given-there p c hj d e =

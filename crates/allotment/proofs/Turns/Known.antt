@@ -51,13 +51,13 @@ module _ {file : List ℕ} {h : CodeHead} {candidates merits : List ℕ} (at : A
   pub candidates-are : h .candidates ≡ headOf file .candidates
   candidates-are = ap (λ (x : Head). x .candidates) (at .head)
 
-  pub institutes-are : h .institutes ≡ headOf file .institutes
+  institutes-are : h .institutes ≡ headOf file .institutes
   institutes-are = ap (λ (x : Head). x .institutes) (at .head)
 
   pub candidates-many : candidateCount (roundOf file) ≡ h .candidates
   candidates-many = length-candidates file ∙ sym candidates-are
 
-  pub institutes-many : instituteCount (roundOf file) ≡ h .institutes
+  institutes-many : instituteCount (roundOf file) ≡ h .institutes
   institutes-many = length-institutes file ∙ sym institutes-are
 
   pub round-sound : Sound (headOf file .types) (roundOf file)
