@@ -46,7 +46,7 @@ module _ (file : List ℕ) (h : CodeHead) (candidates merits : List ℕ) (hand :
   pub answer-size : answerSize (roundOf file) ≡ 2 * h .candidates + 12 * h .institutes
   answer-size = omega (arith, candidates-many, institutes-many)
 
-  pub work-size : workSize (roundOf file) ≡ 8 * h .candidates
+  work-size : workSize (roundOf file) ≡ 8 * h .candidates
   work-size = omega (arith, candidates-many)
 
   module _ (answer work : List ℕ) where

@@ -17,4 +17,3 @@ pub mod TruthfulRound
 pub mod Turn
 pub mod Bounds
 pub mod AnyOrder
-pub mod Reseated

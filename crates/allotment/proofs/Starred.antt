@@ -1,6 +1,6 @@
 -- The starred rounds of document 01, "Worked rounds": one table of file bytes and what a call on them gives, and one theorem, computed on
 -- the definitions from the bytes to the answer and both areas.
-use Prim.Native.Nat.{ℕ, _-_}
+use Prim.Native.Nat.{ℕ}
 use mathlib.Core.Path.{_≡_, refl}
 use mathlib.Core.List.{List, [], _∷_, _++_, map}
 use lib.ListN.{length, drop, replicate}
@@ -13,8 +13,8 @@ use Rattle.choice.specs.Step.{raises, takenBefore, takenForUse, remaining, take
 use Rattle.choice.specs.Choice.{considers, positionsAt, takenAt, vacantAt, advance, advanceAll, nothingDone, choose}
 use Rattle.allotment.specs.Rows.{rankIn}
 use Rattle.allotment.specs.Offers.{placeOn, stepsOn}
-use Rattle.allotment.specs.Process.{Seat, madeTo, chosen, seatBy, seatsAfter, mayOffer, turn, turns, tried, offersMade, seats}
-use Rattle.allotment.specs.Areas.{joined, wordBytes, seatBytes, closingPlace, closingBytes, answerBytes}
+use Rattle.allotment.specs.Process.{madeTo, chosen, seatBy, seatsAfter, mayOffer, turn, turns, tried, offersMade, seats}
+use Rattle.allotment.specs.Areas.{joined, wordBytes, closingPlace, closingBytes, answerBytes}
 use Rattle.allotment.specs.Outcome.{Outcome, allotted, refused, outcome, answerAfter, workAfter}
 
 abbrev pub Bytes : Type 0

@@ -12,8 +12,10 @@ use borrow.Author.Tests.{not-true, eqb-true, eqb-false}
 use Rattle.round.specs.declared.entry.Category.{Category}
 use Rattle.round.specs.Round.{StepRule}
 use Rattle.round.specs.Lists.{sum}
+use Rattle.round.proofs.Words.{and-fst, and-snd}
 use Rattle.choice.specs.Choice.{Progress, considers, positionsAt, takenAt, vacantAt, advance, advanceAll, nothingDone, choose}
-use Rattle.choice.proofs.Sets.{false-unless, clash, and-left, and-right, left-if-out}
+use Rattle.choice.proofs.Counting.{clash, false-unless}
+use Rattle.choice.proofs.Sets.{left-if-out}
 use Rattle.choice.proofs.Filling.{TakesForUse, taken-within, taken-irrelevant}
 use Rattle.choice.proofs.Completion.{Lawful, Completing, positionsIn, takenIn, complete, completeAll, allLeft, completion, left-before, completion-within}
 use Rattle.choice.proofs.Offers.{Offers, WithinBelow, Alone, same, same-self, same-category}
@@ -61,8 +63,8 @@ module _ (marks : List ℕ) (taking : TakesForUse marks)
     gone-kept : (p : ℕ) → p < length marks → (c : Category) → (Y' p c && not (now .left p c)) ≡ true → Z p c ≡ true
     unfolding complete
     gone-kept p l c e =
-        let gone : now .left p c ≡ false = not-true (now .left p c) (and-right (Y' p c) (not (now .left p c)) e) in
-        ends p l c (and-left (Y' p c) (not (now .left p c)) e) (rw gone)
+        let gone : now .left p c ≡ false = not-true (now .left p c) (and-snd (Y' p c) (not (now .left p c)) e) in
+        ends p l c (and-fst (Y' p c) (not (now .left p c)) e) (rw gone)
 
     -- whoever is taken here was not taken before
     taken-new : (p : ℕ) → p < length marks → takenIn marks k rule now p ≡ true → getD (now .done .given) p 0 ≡ 0
@@ -74,7 +76,7 @@ module _ (marks : List ℕ) (taking : TakesForUse marks)
             let one = agrees .some p l (eqb-false _ _ e) in
             let gone : (Y' p (one .0) && not (now .left p (one .0))) ≡ true = sym (agrees .noted p l (one .0)) ∙ one .1 in
             let same-one : one .0 ≡ rule .category = alone p l _ _ (gone-kept p l (one .0) gone) (taken-kept p l t) in
-            clash (ap (λ (c : Category). now .left p c) same-one ∙ taken-left p t) (not-true (now .left p (one .0)) (and-right (Y' p (one .0)) (not (now .left p (one .0))) gone))
+            clash (ap (λ (c : Category). now .left p c) same-one ∙ taken-left p t) (not-true (now .left p (one .0)) (and-snd (Y' p (one .0)) (not (now .left p (one .0))) gone))
 
     step-same : (p : ℕ) → p < length marks → takenAt marks Y k rule (now .done) p ≡ takenIn marks k rule now p
     unfolding takenAt takenIn positionsAt positionsIn considers
@@ -84,7 +86,7 @@ module _ (marks : List ℕ) (taking : TakesForUse marks)
         taken-irrelevant marks taking (rule .reserved) _ fits
         (λ p. Y p c && eqb (getD (now .done .given) p 0) 0)
         (λ p. now .left p c)
-        (λ p l x. left-if-out (Y' p c) (now .left p c) (fewer p l c (and-left (Y p c) _ x)) (sym (agrees .noted p l c) ∙ ap (λ (g : ℕ). under g c) (eqb-true _ _ (and-right (Y p c) _ x)) ∙ none c))
+        (λ p l x. left-if-out (Y' p c) (now .left p c) (fewer p l c (and-fst (Y p c) _ x)) (sym (agrees .noted p l c) ∙ ap (λ (g : ℕ). under g c) (eqb-true _ _ (and-snd (Y p c) _ x)) ∙ none c))
         (λ p l t. rw (held p l c (taken-kept p l t), taken-new p l t))
 
     step-done : advance marks Y k rule (now .done) ≡ complete marks k rule now .done
@@ -98,7 +100,7 @@ module _ (marks : List ℕ) (taking : TakesForUse marks)
     step-agrees : ((c : Category) → under k c ≡ same c (rule .category)) → Agrees (length marks) under Y' (complete marks k rule now)
     unfolding complete
     step-agrees number = record {
-      within = λ p l c e. agrees .within p l c (and-left (now .left p c) _ e);
+      within = λ p l c e. agrees .within p l c (and-fst (now .left p c) _ e);
       noted = λ p l c. rw (given-then p l) (noted-then p l c (takenIn marks k rule now p) refl);
       some = λ p l ne. rw (given-then p l) (some-then p l (takenIn marks k rule now p) refl (λ z. ne (given-then p l ∙ z)));
     }

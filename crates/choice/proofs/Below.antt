@@ -10,7 +10,7 @@ use Rattle.round.specs.declared.entry.Category.{Category}
 use Rattle.round.specs.Round.{StepRule}
 use Rattle.choice.specs.Step.{takenBefore, takenForUse, remaining, takenByMerit, taken}
 use Rattle.choice.specs.Choice.{Progress, considers, positionsAt, takenAt, vacantAt, advance, advanceAll, nothingDone, choose}
-use Rattle.choice.proofs.Sets.{count-cong}
+use Rattle.choice.proofs.Counting.{count-ext}
 use Rattle.choice.proofs.Offers.{Offers}
 use Rattle.choice.proofs.Completion.{progress}
 use Rattle.choice.proofs.Tabulate.{tabulate-cong}
@@ -36,15 +36,15 @@ taken-below reserved marks X X' alike q p l =
     rw (
       use-below reserved marks X X' n alike p l,
       remaining-below reserved marks X X' n alike p l,
-      count-cong n (takenForUse reserved marks X) (takenForUse reserved marks X') (use-below reserved marks X X' n alike),
-      count-cong p (remaining reserved marks X) (remaining reserved marks X') (λ r m. remaining-below reserved marks X X' n alike r (omega arith)),
+      count-ext n (takenForUse reserved marks X) (takenForUse reserved marks X') (use-below reserved marks X X' n alike),
+      count-ext p (remaining reserved marks X) (remaining reserved marks X') (λ r m. remaining-below reserved marks X X' n alike r (omega arith)),
     )
 
 -- what a step leaves depends on whom it takes of the places
 pub progress-below : (n k positions receiver : ℕ) (done : Progress) (T T' : ℕ → Bool) → ((p : ℕ) → p < n → T p ≡ T' p) → progress n k positions receiver T done ≡ progress n k positions receiver T' done
 progress-below n k positions receiver done T T' alike =
     let given = tabulate-cong n (λ p. cond (T p) k (getD (done .given) p 0)) (λ p. cond (T' p) k (getD (done .given) p 0)) (λ p l. ap (λ (b : Bool). cond b k (getD (done .given) p 0)) (alike p l)) in
-    let number = count-cong n T T' alike in
+    let number = count-ext n T T' alike in
     λ i. record { given = given i; handed = λ j. done .handed j + cond (eqb j receiver) (positions - number i) 0 }
 
 module _ (marks : List ℕ) (Y Y' : Offers) (alike : (p : ℕ) → p < length marks → (c : Category) → Y p c ≡ Y' p c) where

@@ -8,9 +8,10 @@ use lib.Dec.{eqb}
 use lib.ListN.{length, getD, length-replicate}
 use Rattle.round.specs.declared.entry.Category.{Category}
 use Rattle.round.specs.Round.{StepRule}
+use Rattle.round.proofs.Words.{and-fst}
 use Rattle.choice.specs.Step.{raises, takenBefore, takenForUse, remaining, takenByMerit, taken}
 use Rattle.choice.specs.Choice.{Progress, considers, takenAt, advance, advanceAll, nothingDone, choose}
-use Rattle.choice.proofs.Sets.{clash, and-left}
+use Rattle.choice.proofs.Counting.{clash}
 use Rattle.choice.proofs.Offers.{Offers, same, same-self, same-category}
 use Rattle.choice.proofs.Tabulate.{length-tabulate, getD-tabulate, tabulate-bound, getD-zeros}
 
@@ -30,12 +31,6 @@ under-some [] k l m = absurd (omega arith)
 under-some (rule ∷ rules) zero l m = absurd (omega arith)
 under-some (rule ∷ rules) (suc zero) l m = (rule .category, same-self (rule .category))
 under-some (rule ∷ rules) (suc (suc k)) l m = under-some rules (suc k) (omega arith) (omega arith)
-
-pub under-one : (rules : List StepRule) (k : ℕ) (c d : Category) → takenUnder rules k c ≡ true → takenUnder rules k d ≡ true → c ≡ d
-under-one [] k c d e f = clash e refl
-under-one (rule ∷ rules) zero c d e f = clash e refl
-under-one (rule ∷ rules) (suc zero) c d e f = same-category c (rule .category) e ∙ sym (same-category d (rule .category) f)
-under-one (rule ∷ rules) (suc (suc k)) c d e f = under-one rules (suc k) c d e f
 
 is-considered : (x r t : Bool) → ((x && r) || (x && not (x && r) && t)) ≡ true → x ≡ true
 is-considered true r t e = refl
@@ -79,7 +74,7 @@ module _ (marks : List ℕ) (Y : Offers) where
       go : (b : Bool) → takenAt marks Y k rule done p ≡ b → under (cond b k (getD (done .given) p 0)) c ≡ true → Y p c ≡ true
       go true e u =
           let one : c ≡ rule .category = same-category c (rule .category) (sym (number c) ∙ u) in
-          let offers : Y p (rule .category) ≡ true = and-left (Y p (rule .category)) (eqb (getD (done .given) p 0) 0) (taken-considered (rule .reserved) marks _ _ p e) in
+          let offers : Y p (rule .category) ≡ true = and-fst (Y p (rule .category)) (eqb (getD (done .given) p 0) 0) (taken-considered (rule .reserved) marks _ _ p e) in
           cc
       go false e u = low p l c u
 

@@ -12,9 +12,11 @@ use Rattle.round.specs.declared.entry.Category.{Category}
 use Rattle.round.specs.declared.entry.Category.the-variants.{Open, SC, ST, OBC, EWS}
 use Rattle.round.specs.Round.{StepRule}
 use Rattle.round.specs.Lists.{tabulate, count, sum}
+use Rattle.round.proofs.Words.{and-fst, and-snd}
 use Rattle.choice.specs.Step.{taken}
 use Rattle.choice.specs.Choice.{Progress, nothingDone}
-use Rattle.choice.proofs.Sets.{true-unless, clash, and-left, and-right, left-if-out, out-if-left, count-mono, count-cong, count-split}
+use Rattle.choice.proofs.Counting.{clash, true-unless, count-ext, count-le}
+use Rattle.choice.proofs.Sets.{left-if-out, out-if-left, count-split}
 use Rattle.choice.proofs.Offers.{Offers, Within, WithinBelow, same, same-category, offersIn, offers-split, same-by-offers, cutOffers, cut-in}
 use Rattle.choice.proofs.Filling.{TakesForUse, taken-within, taken-stays, taken-count}
 
@@ -69,13 +71,13 @@ totalTaken marks rules offered = offersIn (length marks) (completion marks rules
 
 pub completion-within : (marks : List ℕ) (rules : List StepRule) (Y : Offers) (p : ℕ) (c : Category) → completion marks rules Y p c ≡ true → Y p c ≡ true
 unfolding completion
-completion-within marks rules Y p c = and-left (Y p c) _
+completion-within marks rules Y p c = and-fst (Y p c) _
 
 -- an offer left at the end was left all the time
 pub left-before : (marks : List ℕ) (rules : List StepRule) (k : ℕ) (now : Completing) (p : ℕ) (c : Category) → completeAll marks k rules now .left p c ≡ true → now .left p c ≡ true
 unfolding completeAll complete
 left-before marks [] k now p c e = e
-left-before marks (rule ∷ rules) k now p c e = and-left (now .left p c) _ (left-before marks rules (suc k) (complete marks k rule now) p c e)
+left-before marks (rule ∷ rules) k now p c e = and-fst (now .left p c) _ (left-before marks rules (suc k) (complete marks k rule now) p c e)
 
 stays-left : (l s t l' t' : Bool) → (l ≡ true → l' ≡ true) → (l ≡ true → s ≡ true → t ≡ false → t' ≡ false) → (l && not (s && t)) ≡ true → (l' && not (s && t')) ≡ true
 stays-left true true true l' t' f g e = clash e refl
@@ -90,7 +92,7 @@ cond-mono false v v' h = omega arith
 -- a part of the set leaves it, or nothing does
 count-leaving : (n : ℕ) (X T : ℕ → Bool) (b : Bool) → (b ≡ true → (p : ℕ) → p < n → T p ≡ true → X p ≡ true) → count n (λ p. X p && not (b && T p)) + cond b (count n T) 0 ≡ count n X
 count-leaving n X T true s = omega (arith, count-split n X T (s refl))
-count-leaving n X T false s = omega (arith, count-cong n (λ p. X p && true) X (λ p l. and-true (X p)))
+count-leaving n X T false s = omega (arith, count-ext n (λ p. X p && true) X (λ p l. and-true (X p)))
 
 one-category : (c : Category) (t : ℕ) → cond (same Open c) t 0 + cond (same SC c) t 0 + cond (same ST c) t 0 + cond (same OBC c) t 0 + cond (same EWS c) t 0 ≡ t
 one-category Open t = omega arith
@@ -178,7 +180,7 @@ module _ (marks : List ℕ) (taking : TakesForUse marks) where
           more k,
           step-count now,
           step-count now',
-          count-mono (length marks) (λ p. now .left p (rule .category)) (λ p. now' .left p (rule .category)) (λ p l. fewer p (rule .category)),
+          count-le (length marks) (λ p. now .left p (rule .category)) (λ p. now' .left p (rule .category)) (λ p l. fewer p (rule .category)),
         )
 
     step-handed : (j : ℕ) → complete marks k rule now' .done .handed j ≤ complete marks k rule now .done .handed j
@@ -252,7 +254,7 @@ module _ (marks : List ℕ) (taking : TakesForUse marks) where
         p l c)
 
     cut-same : (Y : Offers) (p : ℕ) → p < length marks → (c : Category) → completion marks rules (cutOffers (length marks) Y) p c ≡ completion marks rules Y p c
-    cut-same Y = same-within (cutOffers (length marks) Y) Y (λ p c o. and-right (ltb p (length marks)) (Y p c) o) (λ p l c t. cut-in (length marks) Y p l c (completion-within marks rules Y p c t))
+    cut-same Y = same-within (cutOffers (length marks) Y) Y (λ p c o. and-snd (ltb p (length marks)) (Y p c) o) (λ p l c t. cut-in (length marks) Y p l c (completion-within marks rules Y p c t))
 
     -- offers that are not taken may be left out
     pub completion-irrelevant : (Y Y' : Offers) → WithinBelow (length marks) Y Y' → WithinBelow (length marks) (completion marks rules Y') Y → (p : ℕ) → p < length marks → (c : Category) → completion marks rules Y p c ≡ completion marks rules Y' p c
@@ -260,8 +262,8 @@ module _ (marks : List ℕ) (taking : TakesForUse marks) where
         sym (cut-same Y p l c)
         ∙ same-within (cutOffers (length marks) Y) (cutOffers (length marks) Y')
         (λ r d o.
-        let m : r < length marks = ltb-true r (length marks) (and-left (ltb r (length marks)) (Y r d) o) in
-        cut-in (length marks) Y' r m d (s r m d (and-right (ltb r (length marks)) (Y r d) o)))
+        let m : r < length marks = ltb-true r (length marks) (and-fst (ltb r (length marks)) (Y r d) o) in
+        cut-in (length marks) Y' r m d (s r m d (and-snd (ltb r (length marks)) (Y r d) o)))
         (λ r m d t. cut-in (length marks) Y r m d (held r m d (sym (cut-same Y' r m d) ∙ t)))
         p l c
         ∙ cut-same Y' p l c

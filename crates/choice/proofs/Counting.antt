@@ -1,7 +1,7 @@
 -- Facts about tests, counts, sums and greatest values.
 use Prim.Native.Nat.{ℕ, zero, suc, _+_, _-_, _≤_, _<_}
 use mathlib.Core.Path.{_≡_, refl, sym, ap, _∙_}
-use mathlib.Core.Bool.{Bool, true, false, not, _&&_, _||_, true≢false, false≢true}
+use mathlib.Core.Bool.{Bool, true, false, not, _&&_, _||_, true≢false}
 use mathlib.Core.List.{List, [], _∷_}
 use mathlib.Core.Logic.{_≢_}
 use native.Mathlib.Omega.{arith}
@@ -28,19 +28,19 @@ sameOr a b same other = test (eqb a b) (λ e. same (eqb-true a b e)) (λ e. othe
 pub below {ℓ} : {C : Type ℓ} (i n : ℕ) → i < suc n → (i < n → C) → (i ≡ n → C) → C
 below i n l less same = lessOr i n less (λ h. same (omega arith))
 
-pub and-left : (a b : Bool) → a && b ≡ true → a ≡ true
-and-left true b e = refl
-and-left false b e = e
-
-pub and-right : (a b : Bool) → a && b ≡ true → b ≡ true
-and-right true b e = e
-and-right false b e = absurd (false≢true e)
-
 pub and-true : (a b : Bool) → a ≡ true → b ≡ true → a && b ≡ true
 and-true a b e f = rw (e, f)
 
-pub not-both : (b : Bool) → b ≡ true → b ≡ false → ⊥
-not-both b e f = true≢false (sym e ∙ f)
+pub clash : {A : Type 0} {b : Bool} → b ≡ true → b ≡ false → A
+clash e f = absurd (true≢false (sym e ∙ f))
+
+pub true-unless : (b : Bool) → (b ≡ false → ⊥) → b ≡ true
+true-unless true h = refl
+true-unless false h = absurd (h refl)
+
+pub false-unless : (b : Bool) → (b ≡ true → ⊥) → b ≡ false
+false-unless true h = absurd (h refl)
+false-unless false h = refl
 
 -- two tests of which the second is passed wherever the first is
 pub contra : (a b : Bool) → (a ≡ true → b ≡ true) → b ≡ false → a ≡ false
@@ -156,14 +156,6 @@ greatest-reached (suc n) f h =
     let (t, l, at) = greatest-reached n f (omega arith) in
     (t, omega arith, omega arith))
     (λ most. (n, omega arith, omega arith))
-
--- a test passed by each number below n
-pub all-at : (n : ℕ) (f : ℕ → Bool) → all n f ≡ true → (i : ℕ) → i < n → f i ≡ true
-all-at zero f h i l = absurd (omega arith)
-all-at (suc n) f h i l =
-    below i n l
-    (λ less. all-at n f (and-right (f n) (all n f) h) i less)
-    (λ same. ap f same ∙ and-left (f n) (all n f) h)
 
 pub all-from : (n : ℕ) (f : ℕ → Bool) → ((i : ℕ) → i < n → f i ≡ true) → all n f ≡ true
 all-from zero f h = refl

@@ -9,9 +9,11 @@ use lib.Dec.{ltb}
 use lib.ListN.{length}
 use borrow.Author.Tests.{ltb-true, ltb-false, lt-ltb, le-ltb}
 use Rattle.round.specs.Lists.{count, sum}
+use Rattle.round.proofs.Words.{and-fst, and-snd}
 use Rattle.choice.specs.Step.{takenForUse, remaining, takenByMerit, taken}
+use Rattle.choice.proofs.Counting.{clash, true-unless, count-le}
 use Rattle.choice.proofs.TakingRule.{TakingRule}
-use Rattle.choice.proofs.Sets.{true-unless, clash, and-left, and-right, count-mono, same-by-count, count-split, count-join, count-best}
+use Rattle.choice.proofs.Sets.{same-by-count, count-split, count-join, count-best}
 
 -- H's places, and of the rest those whom H's places and the better ones of the rest leave one of q positions
 unfoldable pub filled : ℕ → ((ℕ → Bool) → ℕ → Bool) → ℕ → (ℕ → Bool) → ℕ → Bool
@@ -41,7 +43,7 @@ module _ (n bound : ℕ) (H : (ℕ → Bool) → ℕ → Bool) (law : TakingRule
       l)
 
   cut-same : (X : ℕ → Bool) (p : ℕ) → p < n → H (cut n X) p ≡ H X p
-  cut-same X = same-within (cut n X) X (λ p c. and-right (ltb p n) (X p) c) (λ p l t. cut-in n X p l (law .within X p t))
+  cut-same X = same-within (cut n X) X (λ p c. and-snd (ltb p n) (X p) c) (λ p l t. cut-in n X p l (law .within X p t))
 
   -- whoever leaves out only places that are left out gets the same
   pub irrelevant : (X X' : ℕ → Bool) → ((p : ℕ) → p < n → X p ≡ true → X' p ≡ true) → ((p : ℕ) → p < n → H X' p ≡ true → X p ≡ true) → (p : ℕ) → p < n → H X p ≡ H X' p
@@ -50,7 +52,7 @@ module _ (n bound : ℕ) (H : (ℕ → Bool) → ℕ → Bool) (law : TakingRule
       ∙ same-within
       (cut n X)
       (cut n X')
-      (λ r c. cut-in n X' r (ltb-true r n (and-left (ltb r n) (X r) c)) (s r (ltb-true r n (and-left (ltb r n) (X r) c)) (and-right (ltb r n) (X r) c)))
+      (λ r c. cut-in n X' r (ltb-true r n (and-fst (ltb r n) (X r) c)) (s r (ltb-true r n (and-fst (ltb r n) (X r) c)) (and-snd (ltb r n) (X r) c)))
       (λ r m t. cut-in n X r m (held r m (sym (cut-same X' r m) ∙ t)))
       p
       l
@@ -89,7 +91,7 @@ module _ (n bound : ℕ) (H : (ℕ → Bool) → ℕ → Bool) (law : TakingRule
       let full : q ≤ count n (H X) + count p (λ r. X r && not (H X r)) =
       ltb-false _ _ (out-of-rest (H X p) (X p) test x out) in
       let more : count p (λ r. X r && not (H X r)) ≤ count p (λ r. X' r && not (H X' r)) =
-      count-mono p (λ r. X r && not (H X r)) (λ r. X' r && not (H X' r)) (λ r m. rest-in (X r) (H X r) (X' r) (H X' r) (s r) (law .stays X X' s r)) in
+      count-le p (λ r. X r && not (H X r)) (λ r. X' r && not (H X' r)) (λ r m. rest-in (X r) (H X r) (X' r) (H X' r) (s r) (law .stays X X' s r)) in
       let still : q' ≤ count n (H X') + count p (λ r. X' r && not (H X' r)) = omega (arith, law .grows X X' s) in
       stays-out (H X' p) (X' p) _ (law .stays X X' s p x (out-of-rule (H X p) (X p) test out)) (le-ltb _ _ still)
 
@@ -114,7 +116,7 @@ module _ (n bound : ℕ) (H : (ℕ → Bool) → ℕ → Bool) (law : TakingRule
   filled-rule q enough = record {
     within = filled-within q;
     stays = filled-stays q q (omega arith);
-    grows = λ X X' s. omega (arith, filled-count q enough X, filled-count q enough X', count-mono n X X' (λ p l. s p));
+    grows = λ X X' s. omega (arith, filled-count q enough X, filled-count q enough X', count-le n X X' (λ p l. s p));
     fits = λ X. omega (arith, filled-count q enough X);
   }
 

@@ -1,7 +1,7 @@
 -- Filling by merit, one place after the other: what is known at place p, and how it goes on in each case.
 use Prim.Native.Nat.{ℕ, _+_, _≤_, _<_, min}
 use mathlib.Core.Path.{_≡_, refl, sym, ap}
-use mathlib.Core.Bool.{Bool, true, false, cond, not, _&&_}
+use mathlib.Core.Bool.{Bool, true, false, cond, _&&_, and-false}
 use mathlib.Core.List.{List}
 use native.Mathlib.Omega.{arith}
 use lib.Dec.{eqb, ltb}
@@ -22,10 +22,6 @@ seated number wanted free offers placed given q =
 pub record Filled (number wanted free : ℕ) (offers placed given steps : List ℕ) (filled p : ℕ) : Type 0 where
   pub number-filled : filled ≡ min free (count p (restAt placed (considersBy offers given wanted)))
   pub written : Written given steps (seated number wanted free offers placed given) p
-
-and-false : (b : Bool) → (b && false) ≡ false
-and-false true = refl
-and-false false = refl
 
 module _ (number wanted free : ℕ) (offers placed given : List ℕ) where
   abbrev X : ℕ → Bool

@@ -1,18 +1,15 @@
 -- Groups of categories: where no step outside a group hands positions to a step of the group, the offers outside the group do not bear on it.
-use Prim.Native.Nat.{ℕ, zero, suc, _+_, _<_}
+use Prim.Native.Nat.{ℕ, suc, _<_}
 use mathlib.Core.Path.{_≡_, refl, sym, _∙_, ap}
 use mathlib.Core.Bool.{Bool, true, false, cond}
 use mathlib.Core.List.{List, [], _∷_}
-use native.Mathlib.Omega.{arith}
-use lib.Dec.{eqb}
 use lib.ListN.{length, getD}
-use borrow.Author.Tests.{eqb-true, ne-eqb}
+use borrow.Author.Tests.{ne-eqb}
 use Rattle.round.specs.declared.entry.Category.{Category}
 use Rattle.round.specs.Round.{StepRule}
-use Rattle.round.specs.Lists.{count}
+use Rattle.round.proofs.Words.{and-fst}
 use Rattle.choice.specs.Choice.{Progress, considers, positionsAt, takenAt, vacantAt, advance, advanceAll, nothingDone, choose}
-use Rattle.choice.proofs.Counting.{test}
-use Rattle.choice.proofs.Sets.{clash, false-unless, and-left, count-cong}
+use Rattle.choice.proofs.Counting.{test, clash, false-unless, count-ext}
 use Rattle.choice.proofs.Offers.{Offers}
 use Rattle.choice.proofs.Below.{taken-below}
 use Rattle.choice.proofs.Chosen.{taken-considered}
@@ -54,7 +51,7 @@ module _ (marks : List ℕ) (K : Category → Bool) (P : ℕ → Bool) (Y Y' : O
 
     same-vacant : K (rule .category) ≡ true → P k ≡ true → vacantAt marks Y' k rule done' ≡ vacantAt marks Y k rule done
     unfolding vacantAt
-    same-vacant g h = rw (same-positions h, count-cong (length marks) _ _ (same-taken g h))
+    same-vacant g h = rw (same-positions h, count-ext (length marks) _ _ (same-taken g h))
 
   -- a step outside the group takes no place that has an offer of the group
   none-taken : (Z : Offers) → Separate (length marks) K Z → (k : ℕ) (rule : StepRule) (done : Progress) → K (rule .category) ≡ false
@@ -62,7 +59,7 @@ module _ (marks : List ℕ) (K : Category → Bool) (P : ℕ → Bool) (Y Y' : O
   unfolding takenAt considers
   none-taken Z s k rule done out p l c g z =
       false-unless _
-      (λ t. clash (s p l c (rule .category) g z (and-left (Z p (rule .category)) _ (taken-considered (rule .reserved) marks (considers marks Z rule done) (positionsAt marks Z k rule done) p t))) out)
+      (λ t. clash (s p l c (rule .category) g z (and-fst (Z p (rule .category)) _ (taken-considered (rule .reserved) marks (considers marks Z rule done) (positionsAt marks Z k rule done) p t))) out)
 
   step-alike : (k : ℕ) (rule : StepRule) → P k ≡ K (rule .category) → (K (rule .category) ≡ false → P (rule .receiver) ≡ false)
       → (done done' : Progress) → Alike done done' → Alike (advance marks Y k rule done) (advance marks Y' k rule done')

@@ -11,7 +11,7 @@ use lib.ListN.{length, getD}
 use borrow.Author.Tests.{eq-eqb, ne-eqb}
 use Rattle.choice.specs.Use.{holds, oneLess}
 use Rattle.choice.specs.Step.{raises}
-use Rattle.choice.proofs.Counting.{test, lessOr, below, or-left, or-right, not-both, bit-true, bit-max, bit-pass, sumOf-zero}
+use Rattle.choice.proofs.Counting.{test, lessOr, below, clash, bit-true, bit-max, or-left, or-right, bit-pass, sumOf-zero}
 use Rattle.choice.proofs.Use.{oneLess-length, useOf-nil, useOf-length, useOf-give, raises-false}
 use Rattle.choice.proofs.Tight.{Placeable, cap, only, confined, Tight, union, only-from, cap-oneLess, pigeonhole, tight-union}
 
@@ -85,7 +85,7 @@ gather reserved A c e without (suc n) l = ⊎-elim inl next (gather reserved A c
     next : (T : ℕ → Bool) × Gathered reserved A c n T → Placeable reserved (c ∷ A) ⊎ ((T : ℕ → Bool) × Gathered reserved A c (suc n) T)
     next g =
         test (holds c n) (held g)
-        (λ not-held. inr (g .0, gathered-next reserved A c n (g .0) (g .1) (λ h. absurd (not-both (holds c n) h not-held))))
+        (λ not-held. inr (g .0, gathered-next reserved A c n (g .0) (g .1) (λ h. clash h not-held)))
 
 pub hall : (reserved A : List ℕ) → Placeable reserved A ⊎ ((T : ℕ → Bool) × Violated reserved A T)
 hall reserved [] = inl (useOf-nil reserved)

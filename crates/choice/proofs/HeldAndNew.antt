@@ -9,7 +9,7 @@ use lib.ListN.{length, getD}
 use Rattle.round.specs.declared.entry.Category.{Category}
 use Rattle.round.specs.Round.{StepRule}
 use Rattle.choice.specs.Choice.{choose}
-use Rattle.choice.proofs.Sets.{true-unless, clash}
+use Rattle.choice.proofs.Counting.{clash, true-unless}
 use Rattle.choice.proofs.Offers.{Offers, WithinBelow, Alone, same}
 use Rattle.choice.proofs.Filling.{TakesForUse}
 use Rattle.choice.proofs.Completion.{Lawful, completion, completion-within, completion-stays}

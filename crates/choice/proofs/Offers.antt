@@ -9,7 +9,8 @@ use Rattle.round.specs.declared.entry.Category.{Category}
 use Rattle.round.specs.declared.entry.Category.the-variants.{Open, SC, ST, OBC, EWS}
 use Rattle.round.specs.Category.{codeOf, categoryOf}
 use Rattle.round.specs.Lists.{bit, count, sumOf}
-use Rattle.choice.proofs.Sets.{count-mono, same-by-count, count-split}
+use Rattle.choice.proofs.Counting.{count-le}
+use Rattle.choice.proofs.Sets.{same-by-count, count-split}
 
 abbrev pub Offers : Type 0
 Offers = ℕ → Category → Bool
@@ -32,15 +33,15 @@ same c d = eqb (codeOf c) (codeOf d)
 pub same-self : (c : Category) → same c c ≡ true
 same-self c = eq-eqb (codeOf c) (codeOf c) refl
 
+pub category-code : (c : Category) → categoryOf (codeOf c) ≡ c
+category-code Open = refl
+category-code SC = refl
+category-code ST = refl
+category-code OBC = refl
+category-code EWS = refl
+
 pub same-category : (c d : Category) → same c d ≡ true → c ≡ d
-same-category c d e = sym (back c) ∙ ap categoryOf (eqb-true (codeOf c) (codeOf d) e) ∙ back d
-  where
-    back : (c : Category) → categoryOf (codeOf c) ≡ c
-    back Open = refl
-    back SC = refl
-    back ST = refl
-    back OBC = refl
-    back EWS = refl
+same-category c d e = sym (category-code c) ∙ ap categoryOf (eqb-true (codeOf c) (codeOf d) e) ∙ category-code d
 
 -- how many offers the set has, of the places below n
 unfoldable pub offersIn : ℕ → Offers → ℕ
@@ -66,7 +67,7 @@ unfolding offersIn
 same-by-offers n X Y s few p l c = same-by-count n (λ r. X r c) (λ r. Y r c) (λ r m. s r m c) (each c) p l
   where
     part : (d : Category) → count n (λ r. X r d) ≤ count n (λ r. Y r d)
-    part d = count-mono n (λ r. X r d) (λ r. Y r d) (λ r m. s r m d)
+    part d = count-le n (λ r. X r d) (λ r. Y r d) (λ r m. s r m d)
 
     each : (d : Category) → count n (λ r. Y r d) ≤ count n (λ r. X r d)
     each Open = omega (arith, few, part SC, part ST, part OBC, part EWS)

@@ -1,29 +1,13 @@
--- Counting in sets of places, and the few facts on tests that the laws of the choice share.
+-- Counting in sets of places, and what is left of a set.
 use Prim.Native.Nat.{ℕ, zero, suc, _+_, _-_, _≤_, _<_, min}
 use mathlib.Core.Path.{_≡_, refl}
-use mathlib.Core.Bool.{Bool, true, false, not, _&&_, _||_, true≢false, false≢true, and-eq-true-iff}
+use mathlib.Core.Bool.{Bool, true, false, not, _&&_, _||_, false≢true}
 use native.Mathlib.Omega.{arith}
 use native.Mathlib.Decide.{ℕ-discrete}
 use lib.Dec.{ltb}
 use borrow.Author.Tests.{ltb-true, ltb-false}
 use Rattle.round.specs.Lists.{bit, count}
-
-pub true-unless : (b : Bool) → (b ≡ false → ⊥) → b ≡ true
-true-unless true h = refl
-true-unless false h = absurd (h refl)
-
-pub false-unless : (b : Bool) → (b ≡ true → ⊥) → b ≡ false
-false-unless true h = absurd (h refl)
-false-unless false h = refl
-
-pub clash : {A : Type 0} {b : Bool} → b ≡ true → b ≡ false → A
-clash {b} t f = let z : true ≡ false = cc in absurd (true≢false z)
-
-pub and-left : (a b : Bool) → (a && b) ≡ true → a ≡ true
-and-left a b e = and-eq-true-iff a b .0 e .0
-
-pub and-right : (a b : Bool) → (a && b) ≡ true → b ≡ true
-and-right a b e = and-eq-true-iff a b .0 e .1
+use Rattle.choice.proofs.Counting.{clash, bit-le, count-le}
 
 pub left-if-out : (y l : Bool) → y ≡ true → (y && not l) ≡ false → l ≡ true
 left-if-out y true e f = refl
@@ -36,20 +20,7 @@ out-if-left false true e = refl
 out-if-left true false e = clash e refl
 out-if-left false false e = refl
 
-pub bit-mono : (a b : Bool) → (a ≡ true → b ≡ true) → bit a ≤ bit b
-bit-mono true b h = rw (h refl) (omega arith)
-bit-mono false b h = omega arith
-
-pub count-mono : (n : ℕ) (X Y : ℕ → Bool) → ((p : ℕ) → p < n → X p ≡ true → Y p ≡ true) → count n X ≤ count n Y
-count-mono zero X Y h = omega arith
-count-mono (suc n) X Y h =
-    omega (arith, bit-mono (X n) (Y n) (h n (omega arith)), count-mono n X Y (λ p l. h p (omega arith)))
-
-pub count-cong : (n : ℕ) (X Y : ℕ → Bool) → ((p : ℕ) → p < n → X p ≡ Y p) → count n X ≡ count n Y
-count-cong zero X Y h = refl
-count-cong (suc n) X Y h = rw (h n (omega arith), count-cong n X Y (λ p l. h p (omega arith)))
-
-pub count-strict : (n : ℕ) (X Y : ℕ → Bool) → ((p : ℕ) → p < n → X p ≡ true → Y p ≡ true) → (p : ℕ) → p < n → X p ≡ false → Y p ≡ true → count n X < count n Y
+count-strict : (n : ℕ) (X Y : ℕ → Bool) → ((p : ℕ) → p < n → X p ≡ true → Y p ≡ true) → (p : ℕ) → p < n → X p ≡ false → Y p ≡ true → count n X < count n Y
 count-strict zero X Y h p l f t = absurd (omega arith)
 count-strict (suc n) X Y h p l f t =
     go (ℕ-discrete p n) (λ below. count-strict n X Y (λ r m. h r (omega arith)) p below f t)
@@ -58,8 +29,8 @@ count-strict (suc n) X Y h p l f t =
     go (yes e) ih =
         let out : X n ≡ false = cc in
         let into : Y n ≡ true = cc in
-        rw (out, into) (omega (arith, count-mono n X Y (λ r m. h r (omega arith))))
-    go (no e) ih = omega (arith, ih (omega arith), bit-mono (X n) (Y n) (h n (omega arith)))
+        rw (out, into) (omega (arith, count-le n X Y (λ r m. h r (omega arith))))
+    go (no e) ih = omega (arith, ih (omega arith), bit-le (X n) (Y n) (h n (omega arith)))
 
 -- a set within another that has no more is that set
 pub same-by-count : (n : ℕ) (X Y : ℕ → Bool) → ((p : ℕ) → p < n → X p ≡ true → Y p ≡ true) → count n Y ≤ count n X → (p : ℕ) → p < n → X p ≡ Y p

@@ -34,7 +34,7 @@ from-same : (i n : ℕ) (F G : ℕ → ℕ) → ((q : ℕ) → q < i + n → F q
 from-same i zero F G h = refl
 from-same i (suc n) F G h = rw (h i (omega arith), from-same (suc i) n F G (λ q l. h q (omega arith)))
 
-pub numbered-same : (n number : ℕ) (X Y : ℕ → Bool) (given : List ℕ) → ((q : ℕ) → q < n → X q ≡ Y q) → numbered n number X given ≡ numbered n number Y given
+numbered-same : (n number : ℕ) (X Y : ℕ → Bool) (given : List ℕ) → ((q : ℕ) → q < n → X q ≡ Y q) → numbered n number X given ≡ numbered n number Y given
 numbered-same n number X Y given h =
     from-same 0 n _ _ (λ q l. ap (λ (b : Bool). cond b number (getD given q 0)) (h q (omega arith)))
 
@@ -86,7 +86,7 @@ module _ (reserved marks placed : List ℕ) (X : ℕ → Bool) (positions used :
         left-test (count n H) (count p (remaining reserved marks X)) positions,
       )
 
-  pub seats-same : (p : ℕ) → p < n → seatsAt placed X (positions - used) p ≡ taken reserved marks X positions p
+  seats-same : (p : ℕ) → p < n → seatsAt placed X (positions - used) p ≡ taken reserved marks X positions p
   seats-same p l = unfold taken in rw (fills-same p l, sym (k .each p l))
 
   split : (p : ℕ) → bit (taken reserved marks X positions p) ≡ bit (H p) + bit (takenByMerit reserved marks X positions p)
@@ -97,7 +97,7 @@ module _ (reserved marks placed : List ℕ) (X : ℕ → Bool) (positions used :
       apart true false l = refl
       apart false x l = omega arith
 
-  pub vacant-same : (free filled vacant : ℕ) → free ≡ positions - used → filled ≡ min free (count n (restAt placed X)) → vacant ≡ free - filled
+  vacant-same : (free filled vacant : ℕ) → free ≡ positions - used → filled ≡ min free (count n (restAt placed X)) → vacant ≡ free - filled
       → vacant ≡ stepVacant reserved marks X positions
   vacant-same free filled vacant f e v =
       omega (

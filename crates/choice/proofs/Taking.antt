@@ -9,9 +9,10 @@ use lib.Dec.{ltb}
 use lib.ListN.{length, getD}
 use borrow.Author.Tests.{not-true}
 use Rattle.round.specs.Lists.{count, sum}
+use Rattle.round.proofs.Words.{and-fst, and-snd}
 use Rattle.choice.specs.Use.{useOf}
 use Rattle.choice.specs.Step.{raises, takenBefore, takenForUse}
-use Rattle.choice.proofs.Counting.{test, and-left, and-right, or-left, or-right, exclude, contra, bit-true, bit-false, tally-split, tally-all}
+use Rattle.choice.proofs.Counting.{test, or-left, or-right, exclude, contra, bit-true, bit-false, tally-split, tally-all}
 use Rattle.choice.proofs.Use.{placed, useOf-nil, useOf-sum, raises-true}
 use Rattle.choice.proofs.Tight.{Placeable, cap-none, only, Tight, union, Apart, only-le, pigeonhole, cross, tight-union, blocked}
 use Rattle.choice.proofs.Hall.{exhausted}
@@ -78,11 +79,11 @@ module _ (reserved marks : List ℕ) (X : ℕ → Bool) where
   -- who is taken was considered
   pub takenForUse-within : (p : ℕ) → takenForUse reserved marks X p ≡ true → X p ≡ true
   unfolding takenForUse
-  takenForUse-within p e = and-left (X p) _ e
+  takenForUse-within p e = and-fst (X p) _ e
 
   takenForUse-raises : (p : ℕ) → takenForUse reserved marks X p ≡ true → raises reserved (takenBefore reserved marks X p) (getD marks p 0) ≡ true
   unfolding takenForUse
-  takenForUse-raises p e = and-right (X p) _ e
+  takenForUse-raises p e = and-snd (X p) _ e
 
   -- a considered place is taken when it raises the use of those taken
   pub takenForUse-considered : (p : ℕ) → X p ≡ true → takenForUse reserved marks X p ≡ raises reserved (takenBefore reserved marks X p) (getD marks p 0)

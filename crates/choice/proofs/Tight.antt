@@ -9,10 +9,11 @@ use lib.Dec.{eqb}
 use lib.ListN.{length, getD}
 use borrow.Author.Tests.{not-true}
 use Rattle.round.specs.Lists.{bit, count, sumOf, all}
+use Rattle.round.proofs.Words.{and-fst, and-snd, all-at}
 use Rattle.choice.specs.Use.{holds, oneLess, useOf, Placing, placedIn}
 use Rattle.choice.specs.Step.{raises}
-use Rattle.choice.proofs.Counting.{test, and-left, and-right, and-true, or-left, or-right, bit-true, bit-same, bit-other, bit-le}
-use Rattle.choice.proofs.Counting.{sumOf-ext, sumOf-le, sumOf-add, sumOf-zero, sumOf-at, all-at, all-from, tally, tally-le, tally-split}
+use Rattle.choice.proofs.Counting.{test, and-true, or-left, or-right, bit-true, bit-same, bit-other, bit-le}
+use Rattle.choice.proofs.Counting.{sumOf-ext, sumOf-le, sumOf-add, sumOf-zero, sumOf-at, all-from, tally, tally-le, tally-split}
 use Rattle.choice.proofs.Use.{oneLess-length, oneLess-same, oneLess-other, useOf-given, useOf-everyone, raises-true}
 use Rattle.choice.proofs.Use.{givenType, givenType-cons, placed, PlacingTo, Stands, placed-length, placed-types, placed-given, placed-place, placed-placing}
 
@@ -140,12 +141,12 @@ cross reserved A A′ T U e h t u =
       cap-cross reserved T U,
       pigeonhole reserved A (meet T U) e,
       tally-split inT inU A,
-      tally-le (λ m. inT m && inU m) (only n (meet T U)) A (λ m k. only-meet n T U m (and-left _ _ k) (and-right (inT m) _ k)),
-      h (λ m. inT m && not (inU m)) (λ m k. not-true (inU m) (and-right (inT m) _ k)),
+      tally-le (λ m. inT m && inU m) (only n (meet T U)) A (λ m k. only-meet n T U m (and-fst _ _ k) (and-snd (inT m) _ k)),
+      h (λ m. inT m && not (inU m)) (λ m k. not-true (inU m) (and-snd (inT m) _ k)),
       tally-split inBoth inU A′,
       tally-le inU (λ m. inBoth m && inU m) A′ (λ m k. and-true _ _ (only-le n U (union T U) m (λ i. or-right (T i) (U i)) k) k),
       tally-le (λ m. inT m && not (inU m)) (λ m. inBoth m && not (inU m)) A′
-          (λ m k. and-true _ _ (only-le n T (union T U) m (λ i. or-left (T i) (U i)) (and-left _ _ k)) (and-right (inT m) _ k)),
+          (λ m k. and-true _ _ (only-le n T (union T U) m (λ i. or-left (T i) (U i)) (and-fst _ _ k)) (and-snd (inT m) _ k)),
     )
   where
     n : ℕ

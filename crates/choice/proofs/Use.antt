@@ -11,9 +11,10 @@ use lib.ListN.{length, getD, length-set}
 use lib.Seq.{getD-set-same, getD-set-other}
 use borrow.Author.Tests.{ltb-true, ltb-false, lt-ltb, le-ltb}
 use Rattle.round.specs.Lists.{bit, count, sum}
+use Rattle.round.proofs.Words.{and-fst, and-snd}
 use Rattle.choice.specs.Use.{holds, oneLess, greatest, useOf, Placing, placedIn}
 use Rattle.choice.specs.Step.{raises}
-use Rattle.choice.proofs.Counting.{test, lessOr, sameOr, and-left, and-right, bit-true, bit-false, bit-same, bit-other, count-first}
+use Rattle.choice.proofs.Counting.{test, lessOr, sameOr, bit-true, bit-false, bit-same, bit-other, count-first}
 use Rattle.choice.proofs.Counting.{greatest-above, greatest-below, greatest-reached, sum-less}
 
 pub oneLess-length : (reserved : List ℕ) (t : ℕ) → length (oneLess reserved t) ≡ length reserved
@@ -140,7 +141,7 @@ giving-can reserved m others t h r = rw (h, lt-ltb 0 (getD reserved t 0) r)
 giving-cases : (reserved : List ℕ) (m : ℕ) (others : List ℕ) (t : ℕ) → 0 < giving reserved m others t → (holds m t ≡ true) × (0 < getD reserved t 0)
 giving-cases reserved m others t h =
     test (holds m t && ltb 0 (getD reserved t 0))
-    (λ e. (and-left _ _ e, ltb-true 0 _ (and-right (holds m t) _ e)))
+    (λ e. (and-fst _ _ e, ltb-true 0 _ (and-snd (holds m t) _ e)))
     (λ e. absurd (omega (arith, ap {B = ℕ} (λ b. cond b (suc (useOf (oneLess reserved t) others)) 0) e)))
 
 giving-below : (reserved : List ℕ) (m : ℕ) (others : List ℕ) (b : ℕ)

@@ -9,11 +9,12 @@ use lib.ListN.{length, getD, set, length-set, List·getD-eq-default}
 use lib.Seq.{getD-set-same, getD-set-other}
 use borrow.Author.Tests.{eqb-true, eqb-false, eq-eqb, ne-eqb}
 use Rattle.round.specs.Lists.{bit, count}
+use Rattle.round.proofs.Words.{and-fst, and-snd}
 use Rattle.choice.specs.declared.placing.Found.{Found}
 use Rattle.choice.specs.declared.placing.Found.the-variants.{At, Nothing}
 use Rattle.choice.specs.Use.{holds, Placing}
 use Rattle.choice.specs.Search.{atType, Moved, Stuck}
-use Rattle.choice.proofs.Counting.{lessOr, sameOr, and-left, and-right}
+use Rattle.choice.proofs.Counting.{lessOr, sameOr}
 use Rattle.choice.proofs.Counts.{count-less, count-one, bit-true, bit-false}
 
 -- the types visited since: each is full, and who is placed at one holds visited types only
@@ -63,7 +64,7 @@ unvisited visited = count (length visited) (λ t. eqb (getD visited t 0) 0)
 -- the test of a type that is tried
 pub tried-test : (m t v : ℕ) {r : Bool} → r ≡ (holds m t && eqb v 0) → r ≡ true → (holds m t ≡ true) × (v ≡ 0)
 tried-test m t v e y =
-    (and-left (holds m t) (eqb v 0) (sym e ∙ y), eqb-true v 0 (and-right (holds m t) (eqb v 0) (sym e ∙ y)))
+    (and-fst (holds m t) (eqb v 0) (sym e ∙ y), eqb-true v 0 (and-snd (holds m t) (eqb v 0) (sym e ∙ y)))
 
 module _ (reserved marks placed : List ℕ) where
   -- more types are visited, and then more again

@@ -54,7 +54,7 @@ from-at i (suc n) F (suc q) b =
     let e : i + suc q ≡ suc i + q = omega arith in
     rw e (from-at (suc i) n F q (omega arith))
 
-pub getD-tabulate : (n : ℕ) (F : ℕ → ℕ) (q : ℕ) → q < n → getD (tabulate n F) q 0 ≡ F q
+getD-tabulate : (n : ℕ) (F : ℕ → ℕ) (q : ℕ) → q < n → getD (tabulate n F) q 0 ≡ F q
 getD-tabulate n F q b = let e : 0 + q ≡ q = omega arith in rw e at (from-at 0 n F q b)
 
 pub tabulated : (l₀ l : List ℕ) (F : ℕ → ℕ) (p : ℕ) → Written l₀ l F p → length l₀ ≤ p → l ≡ tabulate (length l₀) F

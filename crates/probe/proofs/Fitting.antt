@@ -8,9 +8,9 @@ use lib.Dec.{leb, eqb}
 use lib.ListN.{length}
 use borrow.Author.Tests.{leb-true, eqb-true}
 use Rattle.round.specs.Reading.{stepsIn}
+use Rattle.round.proofs.Words.{and-fst, and-snd}
 use Rattle.choice.specs.Offers.{offeredBy}
 use Rattle.choice.specs.Choice.{choose}
-use Rattle.choice.proofs.Sets.{and-left, and-right}
 use Rattle.probe.specs.Probe.{fitting, stepsAfter}
 
 pub fitted : (types body places offers steps : ℕ) → fitting types body places offers steps ≡ true
@@ -21,14 +21,14 @@ fitted types body places offers steps e =
     let c = leb places 512 in
     let d = eqb offers places in
     let f = eqb steps places in
-    let bf : (b && (c && (d && f))) ≡ true = and-right a (b && (c && (d && f))) e in
-    let cf : (c && (d && f)) ≡ true = and-right b (c && (d && f)) bf in
-    let df : (d && f) ≡ true = and-right c (d && f) cf in (
-      leb-true types 8 (and-left a (b && (c && (d && f))) e),
-      eqb-true body (10 + 10 * types) (and-left b (c && (d && f)) bf),
-      leb-true places 512 (and-left c (d && f) cf),
-      eqb-true offers places (and-left d f df),
-      eqb-true steps places (and-right d f df),
+    let bf : (b && (c && (d && f))) ≡ true = and-snd a (b && (c && (d && f))) e in
+    let cf : (c && (d && f)) ≡ true = and-snd b (c && (d && f)) bf in
+    let df : (d && f) ≡ true = and-snd c (d && f) cf in (
+      leb-true types 8 (and-fst a (b && (c && (d && f))) e),
+      eqb-true body (10 + 10 * types) (and-fst b (c && (d && f)) bf),
+      leb-true places 512 (and-fst c (d && f) cf),
+      eqb-true offers places (and-fst d f df),
+      eqb-true steps places (and-snd d f df),
     )
 
 module _ (body : List ℕ) (types policy : ℕ) (marks offers before : List ℕ) where

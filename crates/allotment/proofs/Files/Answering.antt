@@ -15,8 +15,9 @@ use Rattle.allotment.specs.Process.{Seat, noSeat, candidateCount, instit
 use Rattle.allotment.specs.Areas.{joined, seatBytes, closingBytes, answerBytes, answerSize}
 use Rattle.allotment.specs.Held.{AtHand, HeldIn}
 use Rattle.allotment.specs.Writing.{seatHeld, seatsHeld, heldBytes, ClosingKnown}
+use Rattle.allotment.proofs.Rounds.Bounds.{list-length}
 use Rattle.allotment.proofs.Files.Pieces.{length-pieces}
-use Rattle.allotment.proofs.Files.AreaSeats.{length-seats, length-answer}
+use Rattle.allotment.proofs.Files.AreaSeats.{length-answer}
 use Rattle.allotment.proofs.Files.Closing.{held-at}
 use Rattle.allotment.proofs.Files.Putting.{sets-append, sets-front, heldPieces}
 
@@ -34,7 +35,7 @@ length-held holders steps = length-pieces 2 (heldPieces holders steps) (λ i. re
 
 module _ (r : Round) (holders steps : List ℕ) (held : HeldIn (seats r) holders steps) where
   many : length holders ≡ candidateCount r
-  many = held .holders-many ∙ length-seats r
+  many = held .holders-many ∙ list-length r
 
   -- both parts together
   parts : heldBytes holders steps ++ joined (tabulate (instituteCount r) (closingBytes r (seatsHeld holders steps))) ≡ answerBytes r
@@ -66,6 +67,6 @@ pub closing-known : (file : List ℕ) (h : CodeHead) {candidates merits holders 
 closing-known file h hand held = record {
   accepted = hand .passing;
   table = hand .merit-starts;
-  holders-many = held .holders-many ∙ (length-seats (roundOf file) ∙ length-candidates file);
-  steps-many = held .steps-many ∙ (length-seats (roundOf file) ∙ length-candidates file);
+  holders-many = held .holders-many ∙ (list-length (roundOf file) ∙ length-candidates file);
+  steps-many = held .steps-many ∙ (list-length (roundOf file) ∙ length-candidates file);
 }

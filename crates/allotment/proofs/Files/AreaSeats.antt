@@ -8,13 +8,10 @@ use lib.Seq.{getD-append-add, ext-getD}
 use Rattle.round.specs.Lists.{tabulate}
 use Rattle.round.specs.Round.{Round}
 use Rattle.round.proofs.Words.{length-tabulate, tabulate-at}
-use Rattle.allotment.specs.Process.{Seat, noSeat, candidateCount, instituteCount, seatsAfter, seats}
+use Rattle.allotment.specs.Process.{Seat, noSeat, candidateCount, instituteCount, seats}
 use Rattle.allotment.specs.Areas.{joined, wordBytes, seatBytes, closingPlace, closingBytes, answerBytes, answerSize, seatIn, seatsIn}
+use Rattle.allotment.proofs.Rounds.Bounds.{list-length}
 use Rattle.allotment.proofs.Files.Pieces.{length-pieces, getD-pieces}
-
-pub length-seats : (r : Round) → length (seats r) ≡ candidateCount r
-unfolding seats seatsAfter
-length-seats r = length-tabulate 0 (candidateCount r) _
 
 module _ (r : Round) where
   seatPart : List ℕ
@@ -98,7 +95,7 @@ module _ (r : Round) where
   unfolding seatsIn
   seats-stand rest =
       let size = length-tabulate 0 (candidateCount r) (seatIn (answerBytes r ++ rest)) in
-      ext-getD noSeat _ (seats r) (size ∙ sym (length-seats r))
+      ext-getD noSeat _ (seats r) (size ∙ sym (list-length r))
       (λ i l.
       let m : i < candidateCount r = omega arith in
       tabulate-at (candidateCount r) (seatIn (answerBytes r ++ rest)) noSeat i m ∙ seat-stands rest i m)

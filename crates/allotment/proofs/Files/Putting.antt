@@ -38,7 +38,7 @@ joined-more : (n : ℕ) (f : ℕ → List ℕ) → joined (tabulate (suc n) f) �
 joined-more n f = joined-from 0 n f ∙ rw zero-add
 
 -- one piece more
-pub pieces-more : (w : ℕ) (f : ℕ → List ℕ) → ((i : ℕ) → length (f i) ≡ w) → (area : List ℕ) (at n : ℕ) {now : List ℕ}
+pieces-more : (w : ℕ) (f : ℕ → List ℕ) → ((i : ℕ) → length (f i) ≡ w) → (area : List ℕ) (at n : ℕ) {now : List ℕ}
     → now ≡ sets area at (joined (tabulate n f)) → sets now (at + w * n) (f n) ≡ sets area at (joined (tabulate (n + 1) f))
 pieces-more w f wide area at n {now} e =
     rw (e, ← length-pieces w f wide n, add-one, joined-more) (sets-append area at (joined (tabulate n f)) (f n))

@@ -4,7 +4,7 @@ use mathlib.Core.Bool.{true}
 use mathlib.Core.Logic.{_≢_}
 use Prim.Native.Nat.{ℕ, suc, _<_}
 use native.Mathlib.Omega.{arith}
-use Rattle.allotment.proofs.Market.Tests.{clash}
+use Rattle.choice.proofs.Counting.{clash}
 use Rattle.allotment.proofs.Market.Laws.{Offers, Market, kept}
 use Rattle.allotment.proofs.Market.Update.{split-at}
 use Rattle.allotment.proofs.Market.Rows.{Ranked, Rows, State, offers, offered, tried, offers-le, one-entry}

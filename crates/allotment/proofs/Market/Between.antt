@@ -5,7 +5,7 @@ use mathlib.Core.Logic.{_⊎_, inl, inr, _≢_}
 use Prim.Native.Nat.{ℕ, _<_}
 use native.Mathlib.Omega.{arith}
 use native.Mathlib.Decide.{decLt}
-use Rattle.allotment.proofs.Market.Tests.{clash}
+use Rattle.choice.proofs.Counting.{clash}
 use Rattle.allotment.proofs.Market.Laws.{Offers, _⊆_, Market, kept, total-lt}
 use Rattle.allotment.proofs.Market.Update.{split-at}
 use Rattle.allotment.proofs.Market.Rows.{Ranked, Rows, State, offers, offered, tried, offers-le}

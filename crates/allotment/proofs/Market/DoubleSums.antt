@@ -9,7 +9,7 @@ use lib.Dec.{eqb}
 use borrow.Author.Tests.{eq-eqb, ne-eqb}
 use Rattle.allotment.proofs.Market.Sums.{sum, sum-same, sum-zero}
 
-pub sum-add : (k : ℕ) (f g : ℕ → ℕ) → sum k (λ i. f i + g i) ≡ sum k f + sum k g
+sum-add : (k : ℕ) (f g : ℕ → ℕ) → sum k (λ i. f i + g i) ≡ sum k f + sum k g
 unfolding sum
 sum-add zero f g = refl
 sum-add (suc k) f g = omega (arith, sum-add k f g)

@@ -3,7 +3,8 @@ use mathlib.Core.Path.{_≡_, refl}
 use mathlib.Core.Bool.{Bool, true, false}
 use mathlib.Core.Logic.{_⊎_, inl, inr}
 use Prim.Native.Nat.{ℕ, _≤_, _<_}
-use Rattle.allotment.proofs.Market.Tests.{clash, is-false, some-below}
+use Rattle.choice.proofs.Counting.{clash, false-unless}
+use Rattle.allotment.proofs.Market.Tests.{some-below}
 use Rattle.allotment.proofs.Market.Sums.{sum, count, sum-lt, count-le, count-lt}
 
 infix 40 _⊆_
@@ -48,4 +49,4 @@ module _ {n K : ℕ} {Ch : Offers → Offers} (M : Market n K Ch) where
     where
       go : Held Ch O i ⊎ ((e : ℕ) → e < K → Ch O i e ≡ false) → Held Ch O i ⊎ Unheld Ch O i
       go (inl h) = inl h
-      go (inr h) = inr (λ e. is-false (Ch O i e) (λ c. clash c (h e (M .bounded O i e c .1))))
+      go (inr h) = inr (λ e. false-unless (Ch O i e) (λ c. clash c (h e (M .bounded O i e c .1))))

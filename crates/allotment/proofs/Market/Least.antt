@@ -3,7 +3,7 @@ use mathlib.Core.Logic.{inl, inr}
 use Prim.Native.Nat.{ℕ, _≤_, _<_}
 use native.Mathlib.Nat.{lt-of-not-le}
 use native.Mathlib.Omega.{arith}
-use Rattle.allotment.proofs.Market.Tests.{clash}
+use Rattle.choice.proofs.Counting.{clash}
 use Rattle.allotment.proofs.Market.Laws.{Offers, Market, Unheld, kept}
 use Rattle.allotment.proofs.Market.Update.{split-at}
 use Rattle.allotment.proofs.Market.Rows.{Rows, State, offers, offered, tried, offers-le}

@@ -1,10 +1,10 @@
 -- States that turns lead to: a candidate held nowhere tries the next entry of the row. Closed: nobody has a turn left.
-use mathlib.Core.Path.{_≡_, refl, _∙_}
+use mathlib.Core.Path.{_≡_, _∙_}
 use mathlib.Core.Logic.{_⊎_, _≢_}
 use mathlib.Core.List.{List}
-use Prim.Native.Nat.{ℕ, zero, suc, _≤_, _<_}
+use Prim.Native.Nat.{ℕ, suc, _≤_, _<_}
 use native.Mathlib.Omega.{arith}
-use lib.ListN.{length, getD, set, replicate}
+use lib.ListN.{length, getD, set}
 use lib.Seq.{getD-set-same, getD-set-other}
 use Rattle.allotment.proofs.Market.Sums.{sum, sum-suc}
 use Rattle.allotment.proofs.Market.Laws.{Offers, Held, Unheld}
@@ -40,12 +40,7 @@ pub turn-turned : (i : ℕ) (t : State) → Turned i t (turn i t)
 unfolding turn
 turn-turned i t = record { here = put-here i (suc (t i)) t; elsewhere = put-elsewhere i (suc (t i)) t }
 
--- a state kept in a list: the start, and a turn
-pub zeros : (m i : ℕ) → _≡_ {A = ℕ} (getD (replicate m 0) i 0) 0
-zeros zero i = refl
-zeros (suc m) zero = refl
-zeros (suc m) (suc i) = zeros m i
-
+-- a turn of a state kept in a list
 pub set-turned : (l : List ℕ) (i v : ℕ) → i < length l → v ≡ suc (getD l i 0)
     → Turned i (λ j. getD l j 0) (λ j. getD (set l i v) j 0)
 set-turned l i v h p = record { here = getD-set-same l i v 0 h ∙ p; elsewhere = λ j d. getD-set-other l i j v 0 d }
@@ -61,7 +56,3 @@ module _ {n : ℕ} {Ch : Offers → Offers} {rows : Rows} where
   reached-fits (start z) j = omega (arith, z j)
   reached-fits (step {u = u} i r l f h s) j =
       split-at (λ j. u j ≤ rows j .len) i (omega arith) (λ j d. omega (arith, s .elsewhere j d, reached-fits r j)) j
-
-  pub reached-outside : {t : State} → Reached n Ch rows t → (j : ℕ) → n ≤ j → t j ≡ 0
-  reached-outside (start z) j m = z j
-  reached-outside (step i r l f h s) j m = s .elsewhere j (λ p. omega arith) ∙ reached-outside r j m

@@ -4,7 +4,7 @@ use mathlib.Core.Bool.{true}
 use mathlib.Core.Logic.{_⊎_, inl, inr, _≢_}
 use Prim.Native.Nat.{ℕ, _≤_, _<_}
 use native.Mathlib.Omega.{arith}
-use Rattle.allotment.proofs.Market.Tests.{clash}
+use Rattle.choice.proofs.Counting.{clash}
 use Rattle.allotment.proofs.Market.Sums.{count, sum-lt, count-none, count-one, count-some}
 use Rattle.allotment.proofs.Market.Laws.{Offers, Market, Held, Unheld, kept, held-or-not, total}
 use Rattle.allotment.proofs.Market.Update.{put, put-here, put-elsewhere, split-at}

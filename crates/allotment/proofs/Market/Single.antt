@@ -6,7 +6,7 @@ use Prim.Native.Nat.{ℕ, _≤_, _<_}
 use native.Mathlib.Omega.{arith}
 use lib.Dec.{eqb}
 use borrow.Author.Tests.{eqb-true, eq-eqb}
-use Rattle.allotment.proofs.Market.Sums.{bit}
+use Rattle.round.specs.Lists.{bit}
 use Rattle.allotment.proofs.Market.Laws.{Offers, _⊆_, Market, kept}
 use Rattle.allotment.proofs.Market.Update.{put, put-here, put-elsewhere, split-at}
 use Rattle.allotment.proofs.Market.Rows.{Row, Rows, Alike, State, offers, offered, tried}
@@ -15,11 +15,11 @@ use Rattle.allotment.proofs.Market.Reached.{Served, Closed}
 unfoldable pub single : ℕ → Row
 single y = record { len = 1; entry = λ p. y; rank = λ e. bit (not (eqb e y)) }
 
-pub single-rank : (y : ℕ) → single y .rank y ≡ 0
+single-rank : (y : ℕ) → single y .rank y ≡ 0
 unfolding single
 single-rank y = ap (λ b. bit (not b)) (eq-eqb y y refl)
 
-pub single-only : (y e : ℕ) → single y .rank e < 1 → e ≡ y
+single-only : (y e : ℕ) → single y .rank e < 1 → e ≡ y
 unfolding single
 single-only y e h = go (eqb e y) refl
   where
@@ -27,7 +27,7 @@ single-only y e h = go (eqb e y) refl
     go true p = eqb-true e y p
     go false p = absurd (omega (arith, ap (λ b. bit (not b)) p))
 
-pub single-len : (y : ℕ) → single y .len ≡ 1
+single-len : (y : ℕ) → single y .len ≡ 1
 unfolding single
 single-len y = refl
 

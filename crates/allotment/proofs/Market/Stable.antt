@@ -4,7 +4,8 @@ use mathlib.Core.Bool.{true, _||_}
 use mathlib.Core.Logic.{_⊎_, inl, inr}
 use Prim.Native.Nat.{ℕ, _≤_, _<_}
 use native.Mathlib.Omega.{arith}
-use Rattle.allotment.proofs.Market.Tests.{or-case, or-right}
+use Rattle.round.proofs.Words.{or-cases}
+use Rattle.choice.proofs.Counting.{or-right}
 use Rattle.allotment.proofs.Market.Laws.{Offers, _⊆_, Market}
 use Rattle.allotment.proofs.Market.Rows.{Rows, State, offers, offered, tried}
 use Rattle.allotment.proofs.Market.Reached.{Served, Closed}
@@ -31,7 +32,7 @@ module _ {n K : ℕ} {Ch : Offers → Offers} (M : Market n K Ch) {rows : Rows} 
   pub stable : (i e : ℕ) → Ch (Z ∪ Ch (offers rows t)) i e ≡ Ch (offers rows t) i e
   stable = between M (offers rows t) (Z ∪ Ch (offers rows t))
       (λ i e q. or-right (Z i e) (Ch (offers rows t) i e) q)
-      (λ i e q. go i e (or-case (Z i e) (Ch (offers rows t) i e) q))
+      (λ i e q. go i e (or-cases (Z i e) (Ch (offers rows t) i e) q))
     where
       go : (i e : ℕ) → (Z i e ≡ true) ⊎ (Ch (offers rows t) i e ≡ true) → offers rows t i e ≡ true
       go i e (inl z) = tried-all i e z

@@ -5,15 +5,12 @@ use mathlib.Core.Logic.{_≢_}
 use Prim.Native.Nat.{ℕ, zero, suc, _+_, _≤_, _<_}
 use native.Mathlib.Omega.{arith}
 use native.Mathlib.Decide.{ℕ-discrete}
-use Rattle.allotment.proofs.Market.Tests.{is-false}
+use Rattle.round.specs.Lists.{bit}
+use Rattle.choice.proofs.Counting.{false-unless, bit-le}
 
 unfoldable pub sum : ℕ → (ℕ → ℕ) → ℕ
 sum zero f = 0
 sum (suc k) f = sum k f + f k
-
-abbrev pub bit : Bool → ℕ
-bit true = 1
-bit false = 0
 
 unfoldable pub count : ℕ → (ℕ → Bool) → ℕ
 count k f = sum k (λ i. bit (f i))
@@ -34,7 +31,7 @@ sum-zero zero f h = refl
 sum-zero (suc k) f h = omega (arith, sum-zero k f (λ i l. h i (omega arith)), h k (omega arith))
 
 -- one summand is no more than the sum
-pub sum-at : (k : ℕ) (f : ℕ → ℕ) (j : ℕ) → j < k → f j ≤ sum k f
+sum-at : (k : ℕ) (f : ℕ → ℕ) (j : ℕ) → j < k → f j ≤ sum k f
 unfolding sum
 sum-at zero f j l = absurd (omega arith)
 sum-at (suc k) f j l =
@@ -79,12 +76,8 @@ count-one zero f h = omega arith
 count-one (suc k) f h = go (f k) refl (count-one k f h)
   where
     go : (b : Bool) → f k ≡ b → count k f ≤ 1 → count (suc k) f ≤ 1
-    go true t c = omega (arith, ap bit t, count-none k f (λ i l. is-false (f i) (λ q. omega (arith, h i k q t))))
+    go true t c = omega (arith, ap bit t, count-none k f (λ i l. false-unless (f i) (λ q. omega (arith, h i k q t))))
     go false t c = omega (arith, ap bit t)
-
-bit-le : (a b : Bool) → (a ≡ true → b ≡ true) → bit a ≤ bit b
-bit-le true b h = omega (arith, ap bit (h refl))
-bit-le false b h = omega arith
 
 pub count-le : (k : ℕ) (f g : ℕ → Bool) → ((i : ℕ) → f i ≡ true → g i ≡ true) → count k f ≤ count k g
 unfolding count

@@ -1,31 +1,16 @@
--- What is true is not false, and a search for what is true below a bound.
+-- Two tests that imply each other are one, and a search for what is true below a bound.
 use mathlib.Core.Path.{_≡_, refl, sym, _∙_, ap}
-use mathlib.Core.Bool.{Bool, true, false, true≢false, _||_}
-use mathlib.Core.Logic.{_⊎_, inl, inr, _≢_}
+use mathlib.Core.Bool.{Bool, true, false}
+use mathlib.Core.Logic.{_⊎_, inl, inr}
 use Prim.Native.Nat.{ℕ, zero, suc, _<_}
 use native.Mathlib.Omega.{arith}
 use native.Mathlib.Decide.{ℕ-discrete}
-
-pub clash : {A : Type 0} {b : Bool} → b ≡ true → b ≡ false → A
-clash p q = absurd (true≢false (sym p ∙ q))
-
-pub is-false : (b : Bool) → b ≢ true → b ≡ false
-is-false true h = absurd (h refl)
-is-false false h = refl
 
 -- two tests that imply each other are one
 pub same-test : (a b : Bool) → (a ≡ true → b ≡ true) → (b ≡ true → a ≡ true) → a ≡ b
 same-test true b f g = sym (f refl)
 same-test false true f g = g refl
 same-test false false f g = refl
-
-pub or-case : (a b : Bool) → (a || b) ≡ true → (a ≡ true) ⊎ (b ≡ true)
-or-case true b p = inl p
-or-case false b p = inr p
-
-pub or-right : (a b : Bool) → b ≡ true → (a || b) ≡ true
-or-right true b p = refl
-or-right false b p = p
 
 -- some number passes the test, or none below k does
 pub some-below : (k : ℕ) (f : ℕ → Bool) → ((e : ℕ) × (f e ≡ true)) ⊎ ((e : ℕ) → e < k → f e ≡ false)

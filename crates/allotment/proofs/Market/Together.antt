@@ -3,8 +3,9 @@ use mathlib.Core.Path.{_≡_, sym, _∙_, ap}
 use mathlib.Core.Bool.{true}
 use Prim.Native.Nat.{ℕ, _<_}
 use native.Mathlib.Omega.{arith}
-use Rattle.allotment.proofs.Market.Tests.{is-false}
-use Rattle.allotment.proofs.Market.Sums.{sum, count, bit, sum-le, sum-same}
+use Rattle.round.specs.Lists.{bit}
+use Rattle.choice.proofs.Counting.{false-unless}
+use Rattle.allotment.proofs.Market.Sums.{sum, count, sum-le, sum-same}
 use Rattle.allotment.proofs.Market.DoubleSums.{sum-swap, sum-only}
 use Rattle.allotment.proofs.Market.Laws.{Offers, Market, total}
 
@@ -25,7 +26,7 @@ module _ {n K : ℕ} (S : ℕ) (at : ℕ → ℕ) (C : ℕ → Offers → Offers
       row i =
           sum-same K (λ e. bit (C (at e) O i e)) (λ e. sum S (λ s. bit (C s O i e)))
           (λ e l. sym (sum-only S (λ s. bit (C s O i e)) (at e) (within e l)
-          (λ s k d. ap bit (is-false (C s O i e) (λ q. d (sym (own s O i e q)))))))
+          (λ s k d. ap bit (false-unless (C s O i e) (λ q. d (sym (own s O i e q)))))))
           ∙ sum-swap K S (λ e s. bit (C s O i e))
 
   pub together-market : Market n K (together at C)

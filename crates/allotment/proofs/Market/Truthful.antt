@@ -4,7 +4,7 @@ use mathlib.Core.Bool.{true}
 use mathlib.Core.Logic.{_⊎_, inl, inr}
 use Prim.Native.Nat.{ℕ, _<_}
 use native.Mathlib.Omega.{arith}
-use Rattle.allotment.proofs.Market.Tests.{clash}
+use Rattle.choice.proofs.Counting.{clash}
 use Rattle.allotment.proofs.Market.Laws.{Offers, Market, Held, Unheld, held-or-not}
 use Rattle.allotment.proofs.Market.Update.{put-elsewhere}
 use Rattle.allotment.proofs.Market.Rows.{Ranked, Rows, Alike, State, offers, offered}

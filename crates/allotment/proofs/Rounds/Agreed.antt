@@ -19,7 +19,6 @@ use Rattle.round.proofs.Words.{and-fst, and-snd}
 use Rattle.choice.proofs.Taking.{takingForUse}
 use Rattle.choice.proofs.Offers.{Alone, same-self, same-category}
 use Rattle.choice.proofs.Chosen.{takenUnder, choose-length, choose-number}
-use Rattle.choice.proofs.Below.{choose-below}
 use Rattle.choice.proofs.Agreement.{agreement, same-steps}
 use Rattle.allotment.specs.Rows.{sameCategory, categoryAt}
 use Rattle.allotment.specs.Offers.{OfferSet, candidateOn, placeOn, stepsOn, stepFor, takenFrom}
@@ -114,11 +113,3 @@ module _ (r : Round) (j : ℕ) where
         let m : p < meritLength r j = omega (arith, merit-marks) in
         held (candidateOn r j p) (candidate-below r j sound p m) c (completed-here r j sound Y' p c m ∙ t))
         (alone Y' one)
-
-    -- the offers of candidates who are none do not matter
-    pub steps-below : (Y Y' : OfferSet) → ((i : ℕ) → i < n → (c : Category) → Y i c ≡ Y' i c) → stepsOn r j Y ≡ stepsOn r j Y'
-    unfolding stepsOn
-    steps-below Y Y' alike =
-        choose-below (marksOn r j) (atPlaces r j Y) (atPlaces r j Y')
-        (λ p l c. alike (candidateOn r j p) (candidate-below r j sound p (omega (arith, merit-marks))) c)
-        (instituteAt r j .steps)

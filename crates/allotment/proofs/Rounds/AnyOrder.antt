@@ -29,15 +29,15 @@ Ended r state = (i : ℕ) → i < candidateCount r → mayOffer r state (seatsAf
 
 module _ {types : ℕ} {r : Round} (sound : Sound types r) where
   -- any reached and closed state of the market is that of the process
-  pub final-tried : {t : State} → Final (candidateCount r) (choiceOf r) (rowsOf r) t → (i : ℕ) → t i ≡ getD (tried r) i 0
+  final-tried : {t : State} → Final (candidateCount r) (choiceOf r) (rowsOf r) t → (i : ℕ) → t i ≡ getD (tried r) i 0
   final-tried f = any-order (round-market r sound) f (tried-final sound)
 
-  pub offered-running : {state : List ℕ} → Offered r state → Running r state
+  offered-running : {state : List ℕ} → Offered r state → Running r state
   offered-running begin = start-running r
   offered-running (offer i o hi may) = turn-running (offered-running o) (may-offer sound (offered-running o) i hi may)
 
   -- a state that turns lead to, and in which nobody may offer, is the last of the process
-  pub ended-tried : {state : List ℕ} → Running r state → Ended r state → state ≡ tried r
+  ended-tried : {state : List ℕ} → Running r state → Ended r state → state ≡ tried r
   ended-tried {state} run ended =
       ext-getD 0 state (tried r) (run .each ∙ sym (tried-running sound .each))
       (λ i l. final-tried (record {

@@ -12,12 +12,13 @@ use borrow.Author.Tests.{lt-ltb, le-ltb}
 use Rattle.round.specs.Round.{Round}
 use Rattle.round.specs.Places.{instituteAt}
 use Rattle.round.specs.Sound.{SoundInstitute, Sound}
+use Rattle.round.specs.Lists.{bit}
 use Rattle.round.proofs.Words.{length-tabulate}
-use Rattle.choice.specs.Use.{greatest}
+use Rattle.choice.proofs.Counting.{bit-max, greatest-below}
 use Rattle.allotment.specs.Offers.{candidateOn, placeOn}
 use Rattle.allotment.specs.Process.{Seat, noSeat, candidateCount, instituteCount, madeTo, chosen, seatBy, seatsAfter, tried, seats}
 use Rattle.allotment.specs.Areas.{seatIs, closingPlace}
-use Rattle.allotment.proofs.Market.Sums.{sum, bit, sum-le, sum-same}
+use Rattle.allotment.proofs.Market.Sums.{sum, sum-le, sum-same}
 use Rattle.allotment.proofs.Market.DoubleSums.{sum-through}
 use Rattle.allotment.proofs.Rounds.Places.{meritLength, candidate-at, candidate-below, place-of}
 use Rattle.allotment.proofs.Rounds.Agreed.{step-number}
@@ -30,18 +31,13 @@ unfolding sum
 sum-ones zero = refl
 sum-ones (suc k) = omega (arith, sum-ones k)
 
-greatest-most : (n : ℕ) (f : ℕ → ℕ) (b : ℕ) → ((p : ℕ) → p < n → f p ≤ b) → greatest n f ≤ b
-unfolding greatest
-greatest-most zero f b h = omega arith
-greatest-most (suc n) f b h = omega (arith, h n (omega arith), greatest-most n f b (λ p l. h p (omega arith)))
-
 -- a merit list is no longer than the list of candidates
 pub merit-short : (r : Round) (j : ℕ) {n types : ℕ} → SoundInstitute n types (instituteAt r j) → meritLength r j ≤ n
 merit-short r j {n} sound =
     omega (
       arith,
       through,
-      sum-le n on (λ i. 1) (λ i l. few i (ltb (placeOn r j i) (meritLength r j))),
+      sum-le n on (λ i. 1) (λ i l. bit-max (ltb (placeOn r j i) (meritLength r j))),
       sum-same (meritLength r j) (λ p. on (candidateOn r j p)) (λ p. 1) there,
       sum-ones n,
       sum-ones (meritLength r j),
@@ -49,10 +45,6 @@ merit-short r j {n} sound =
   where
     on : ℕ → ℕ
     on i = bit (ltb (placeOn r j i) (meritLength r j))
-
-    few : ℕ → (b : Bool) → bit b ≤ 1
-    few i true = omega arith
-    few i false = omega arith
 
     there : (p : ℕ) → p < meritLength r j → on (candidateOn r j p) ≡ 1
     there p l = ap bit (lt-ltb _ (meritLength r j) (omega (arith, place-of r j sound p l)))
@@ -72,7 +64,7 @@ closing-most {r = r} sound list j k hj =
     omega (
       arith,
       merit-short r j (sound .institute j hj),
-      greatest-most (meritLength r j) _ (meritLength r j) (λ p l. place p (seatIs (getD list (candidateOn r j p) noSeat) (suc j) k) l),
+      greatest-below (meritLength r j) _ (meritLength r j) (λ p l. place p (seatIs (getD list (candidateOn r j p) noSeat) (suc j) k) l),
     )
   where
     place : (p : ℕ) (b : Bool) → p < meritLength r j → cond b (suc p) 0 ≤ meritLength r j
@@ -84,7 +76,7 @@ unfolding seatsAfter
 seats-length r state = length-tabulate 0 (candidateCount r) (seatBy r (chosen r state))
 
 module _ {types : ℕ} {r : Round} (sound : Sound types r) {state : List ℕ} (run : Running r state) (i : ℕ) where
-  pub seat-small : (getD (seatsAfter r state) i noSeat .institute ≤ 32) × (getD (seatsAfter r state) i noSeat .step ≤ 6)
+  seat-small : (getD (seatsAfter r state) i noSeat .institute ≤ 32) × (getD (seatsAfter r state) i noSeat .step ≤ 6)
   seat-small = elim (decLt i (candidateCount r)) [
     | yes l ↦ go (seat-of sound run i l)
     | no l ↦ none (List·getD-eq-default (seatsAfter r state) noSeat (omega (arith, seats-length r state)))

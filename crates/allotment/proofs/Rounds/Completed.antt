@@ -44,7 +44,7 @@ module _ (r : Round) (j : ℕ) where
   unfoldable pub completed : OfferSet → OfferSet
   completed Y i c = ltb (placeOn r j i) (meritLength r j) && completedAt Y (placeOn r j i) c
 
-  pub completed-placed : (Y : OfferSet) (i : ℕ) (c : Category) → completed Y i c ≡ true → placeOn r j i < meritLength r j
+  completed-placed : (Y : OfferSet) (i : ℕ) (c : Category) → completed Y i c ≡ true → placeOn r j i < meritLength r j
   unfolding completed
   completed-placed Y i c t = ltb-true (placeOn r j i) (meritLength r j) (and-fst (ltb (placeOn r j i) (meritLength r j)) _ t)
 
@@ -93,7 +93,7 @@ module _ (r : Round) (j : ℕ) where
         completed-on Y (candidateOn r j p) c (omega arith) ∙ ap (λ k. completedAt Y k c) q
 
     -- what is taken of candidates is what is taken of places
-    pub completed-total : (Y : OfferSet) → sum n (λ i. five (completed Y i)) ≡ totalTaken marksOn (instituteAt r j .steps) (atPlaces Y)
+    completed-total : (Y : OfferSet) → sum n (λ i. five (completed Y i)) ≡ totalTaken marksOn (instituteAt r j .steps) (atPlaces Y)
     unfolding totalTaken
     completed-total Y =
         sum-through (meritLength r j) n (candidateOn r j) (placeOn r j) (candidate-below r j sound) (place-of r j sound)

@@ -1,13 +1,13 @@
 -- Sums over the five categories of each institute or of each place.
 use mathlib.Core.Path.{_≡_, refl, sym, _∙_, ap}
-use mathlib.Core.Bool.{Bool, true, false}
+use mathlib.Core.Bool.{Bool, false}
 use Prim.Native.Nat.{ℕ, zero, suc, _+_, _*_}
 use native.Mathlib.Omega.{arith}
 use Rattle.round.specs.declared.entry.Category.{Category}
 use Rattle.round.specs.declared.entry.Category.the-variants.{Open, SC, ST, OBC, EWS}
-use Rattle.round.specs.Lists as Lists
+use Rattle.round.specs.Lists.{bit, sumOf}
 use Rattle.choice.proofs.Offers.{offersIn, offers-by-place}
-use Rattle.allotment.proofs.Market.Sums.{sum, bit, sum-same}
+use Rattle.allotment.proofs.Market.Sums.{sum}
 use Rattle.allotment.proofs.Rounds.Numbered.{numberOf}
 
 -- how many of a candidate's five possible offers to an institute are in the set
@@ -22,25 +22,16 @@ pub five-none : (Z : Category → Bool) → ((c : Category) → Z c ≡ false) �
 unfolding five
 five-none Z h = rw (h Open, h SC, h ST, h OBC, h EWS)
 
--- the sums and bits of the market are those of the definitions
-pub sum-is : (k : ℕ) (f : ℕ → ℕ) → sum k f ≡ Lists.sumOf k f
+-- the sums of the market are those of the definitions
+pub sum-is : (k : ℕ) (f : ℕ → ℕ) → sum k f ≡ sumOf k f
 unfolding sum
 sum-is zero f = refl
 sum-is (suc k) f = omega (arith, sum-is k f)
 
-bit-is : (b : Bool) → bit b ≡ Lists.bit b
-bit-is true = refl
-bit-is false = refl
-
 -- the offers of so many places
 pub five-is : (n : ℕ) (Y : ℕ → Category → Bool) → sum n (λ p. five (Y p)) ≡ offersIn n Y
 unfolding five
-five-is n Y =
-    sum-same n (λ p. five (Y p))
-    (λ p. Lists.bit (Y p Open) + Lists.bit (Y p SC) + Lists.bit (Y p ST) + Lists.bit (Y p OBC) + Lists.bit (Y p EWS))
-    (λ p l. omega (arith, bit-is (Y p Open), bit-is (Y p SC), bit-is (Y p ST), bit-is (Y p OBC), bit-is (Y p EWS)))
-    ∙ sum-is n _
-    ∙ sym (offers-by-place n Y)
+five-is n Y = sum-is n _ ∙ sym (offers-by-place n Y)
 
 -- the sum over all entries, institute by institute
 pub sum-fives : (m : ℕ) (f : ℕ → ℕ)

@@ -9,10 +9,11 @@ use Rattle.round.specs.declared.entry.Category.{Category}
 use Rattle.round.specs.Category.{categoryOf}
 use Rattle.round.specs.Round.{Round}
 use Rattle.round.specs.Sound.{Sound}
+use Rattle.round.specs.Lists.{bit}
 use Rattle.round.proofs.Words.{and-fst, and-snd}
 use Rattle.allotment.specs.Offers.{OfferSet}
 use Rattle.allotment.specs.Process.{candidateCount, instituteCount}
-use Rattle.allotment.proofs.Market.Sums.{sum, count, bit, sum-le, sum-same}
+use Rattle.allotment.proofs.Market.Sums.{sum, count, sum-le, sum-same}
 use Rattle.allotment.proofs.Market.DoubleSums.{sum-swap}
 use Rattle.allotment.proofs.Market.Laws.{Offers, Market, total}
 use Rattle.allotment.proofs.Rounds.Numbered.{numberOf, code-small, number-institute, number-category, number-back}
@@ -51,7 +52,7 @@ module _ (r : Round) where
       let l : numberOf j c < entryBound = omega (arith, code-small c) in
       rw (lt-ltb i (candidateCount r) hi, lt-ltb (numberOf j c) entryBound l, number-institute j c, number-category j c)
 
-  pub choice-back : (O : Offers) (i e : ℕ) → choiceOf O i e ≡ true → completed r (e / 5) (offersTo O (e / 5)) i (categoryOf (e % 5)) ≡ true
+  choice-back : (O : Offers) (i e : ℕ) → choiceOf O i e ≡ true → completed r (e / 5) (offersTo O (e / 5)) i (categoryOf (e % 5)) ≡ true
   unfolding choiceOf
   choice-back O i e t = and-snd (ltb e entryBound) _ (and-snd (ltb i (candidateCount r)) _ t)
 

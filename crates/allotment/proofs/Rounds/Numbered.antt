@@ -16,7 +16,7 @@ use Rattle.round.specs.Places.{candidateAt, entryAt, noEntry}
 use Rattle.round.specs.Sound.{SoundCandidate}
 use Rattle.round.proofs.Words.{and-fst, and-snd}
 use Rattle.round.proofs.Sound.{code-category}
-use Rattle.choice.proofs.Offers.{same-self, same-category}
+use Rattle.choice.proofs.Offers.{same-self, category-code, same-category}
 use Rattle.allotment.specs.Rows.{rowAt, rankIn, entryOf, sameEntry}
 use Rattle.allotment.proofs.Market.Rows.{Row, Ranked, Rows}
 
@@ -33,13 +33,6 @@ code-small SC = omega arith
 code-small ST = omega arith
 code-small OBC = omega arith
 code-small EWS = omega arith
-
-category-code : (c : Category) → categoryOf (codeOf c) ≡ c
-category-code Open = refl
-category-code SC = refl
-category-code ST = refl
-category-code OBC = refl
-category-code EWS = refl
 
 pub number-institute : (j : ℕ) (c : Category) → numberOf j c / 5 ≡ j
 number-institute j c = omega (arith, code-small c)
@@ -58,7 +51,7 @@ number-same j k c d e = (
 pub number-back : (e : ℕ) → numberOf (e / 5) (categoryOf (e % 5)) ≡ e
 number-back e = omega (arith, code-category (e % 5) (omega arith))
 
-pub number-entry : (j : ℕ) (c : Category) → entryWith (numberOf j c) ≡ entryOf j c
+number-entry : (j : ℕ) (c : Category) → entryWith (numberOf j c) ≡ entryOf j c
 number-entry j c = rw (number-institute j c, number-category j c)
 
 same-is : (x y : Entry) → sameEntry x y ≡ true → x ≡ y
@@ -71,15 +64,6 @@ same-refl : (x : Entry) → sameEntry x x ≡ true
 same-refl x = rw (eq-eqb (x .institute) (x .institute) refl) (same-self (x .category))
 
 -- where an entry stands in a row
-pub rank-within : (row : List Entry) (x : Entry) → rankIn row x ≤ length row
-unfolding rankIn
-rank-within [] x = omega arith
-rank-within (y ∷ row) x = go (sameEntry y x) (rank-within row x)
-  where
-    go : (b : Bool) → rankIn row x ≤ length row → cond b 0 (suc (rankIn row x)) ≤ suc (length row)
-    go true h = omega arith
-    go false h = omega arith
-
 pub rank-found : (row : List Entry) (x : Entry) → rankIn row x < length row → getD row (rankIn row x) noEntry ≡ x
 unfolding rankIn
 rank-found [] x l = absurd (omega arith)
@@ -122,7 +106,7 @@ module _ (r : Round) where
   rows-rank i j c = ap (λ (e : Entry). rankIn (rowAt r i) e) (number-entry j c)
 
   -- a candidate's entry from its number
-  pub rows-entry : {institutes types : ℕ} (i : ℕ) → SoundCandidate institutes types (candidateAt r i) → (p : ℕ) → p < length (rowAt r i)
+  rows-entry : {institutes types : ℕ} (i : ℕ) → SoundCandidate institutes types (candidateAt r i) → (p : ℕ) → p < length (rowAt r i)
       → entryWith (rowsOf r i .entry p) ≡ entryAt (candidateAt r i) p
   unfolding rowBy
   rows-entry i s p l =

@@ -8,30 +8,30 @@ use native.Mathlib.Omega.{arith}
 use native.Mathlib.Decide.{decLt}
 use lib.ListN.{length, getD, set, replicate, length-set, length-replicate}
 use borrow.Author.Tests.{ltb-true, ltb-false, lt-ltb, le-ltb, ne-eqb}
-use Rattle.round.specs.Lists as Lists
 use Rattle.round.specs.Lists.{first}
 use Rattle.round.specs.Round.{Round}
 use Rattle.round.specs.Sound.{Sound}
 use Rattle.round.proofs.Words.{and-fst, and-snd, and-no}
+use Rattle.choice.proofs.Counting.{clash}
+use Rattle.choice.proofs.Tabulate.{getD-zeros}
 use Rattle.allotment.specs.Rows.{rowAt}
 use Rattle.allotment.specs.Process.{noSeat, isNone, candidateCount, seatsAfter, mayOffer, turn, turns, entryTotal, tried, offersMade}
-use Rattle.allotment.proofs.Market.Tests.{clash}
 use Rattle.allotment.proofs.Market.Sums.{sum, sum-le}
 use Rattle.allotment.proofs.Market.Laws.{Unheld}
-use Rattle.allotment.proofs.Market.Reached.{start, step, Served, Closed, Final, zeros, set-turned, turned-sum, reached-fits}
+use Rattle.allotment.proofs.Market.Reached.{start, step, Served, Closed, Final, set-turned, turned-sum, reached-fits}
 use Rattle.allotment.proofs.Market.AnyOrder as AnyOrder
 use Rattle.allotment.proofs.Rounds.Numbered.{numberOf, rowBy, rowsOf}
 use Rattle.allotment.proofs.Rounds.First.{first-passes, first-before}
 use Rattle.allotment.proofs.Rounds.Institutes.{choiceOf}
 use Rattle.allotment.proofs.Rounds.Running.{stateOf, made, Running}
 use Rattle.allotment.proofs.Rounds.Counted.{entries, state-sum, state-most}
-use Rattle.allotment.proofs.Rounds.Seats.{seat-unheld, Seated, Unseated, seat-of}
+use Rattle.allotment.proofs.Rounds.Seats.{Seated, Unseated, seat-of}
 
 module _ (r : Round) where
   pub start-running : Running r (replicate (candidateCount r) 0)
   start-running = record {
     each = length-replicate (candidateCount r) 0;
-    reached = start (zeros (candidateCount r));
+    reached = start (getD-zeros (candidateCount r));
   }
 
 -- candidate i has a turn
@@ -55,10 +55,6 @@ pub turn-sum : {r : Round} {state : List ℕ} {i : ℕ} → Running r state → 
 turn-sum {r} {state} {i} run may =
     turned-sum (candidateCount r) (may .inside) (set-turned state i (suc (getD state i 0)) (omega (arith, run .each)) refl)
 
--- a turn is one offer more
-pub turn-offers : {r : Round} {state : List ℕ} {i : ℕ} → Running r state → MayTurn r state i → Lists.sum (advanced state i) ≡ suc (Lists.sum state)
-turn-offers run may = state-sum (turn-running run may) ∙ turn-sum run may ∙ ap suc (sym (state-sum run))
-
 abbrev pub ClosedIn : Round → List ℕ → Type 0
 ClosedIn r state = Closed (candidateCount r) (choiceOf r) (rowsOf r) (stateOf state)
 
@@ -69,14 +65,14 @@ FinalIn r state = Final (candidateCount r) (choiceOf r) (rowsOf r) (stateOf stat
 abbrev pub Next : Round → List ℕ → Type 0
 Next r state = ((i : ℕ) × MayTurn r state i × (turn r state ≡ advanced state i)) ⊎ (ClosedIn r state × (turn r state ≡ state))
 
-pub seated-some : {r : Round} {state : List ℕ} {i : ℕ} → Seated r state i → isNone (getD (seatsAfter r state) i noSeat) ≡ false
+seated-some : {r : Round} {state : List ℕ} {i : ℕ} → Seated r state i → isNone (getD (seatsAfter r state) i noSeat) ≡ false
 seated-some s = ap isNone (s .seat) ∙ rw (ne-eqb (suc (s .institute)) 0 (λ z. omega arith))
 
-pub unseated-none : {r : Round} {state : List ℕ} {i : ℕ} → Unseated r state i → isNone (getD (seatsAfter r state) i noSeat) ≡ true
+unseated-none : {r : Round} {state : List ℕ} {i : ℕ} → Unseated r state i → isNone (getD (seatsAfter r state) i noSeat) ≡ true
 unseated-none s = ap isNone (s .seat)
 
 -- nothing changes any more
-turns-still : (r : Round) (k : ℕ) (state : List ℕ) → turn r state ≡ state → turns r k state ≡ state
+pub turns-still : (r : Round) (k : ℕ) (state : List ℕ) → turn r state ≡ state → turns r k state ≡ state
 unfolding turns
 turns-still r zero state e = refl
 turns-still r (suc k) state e = ap (turns r k) e ∙ turns-still r k state e
@@ -95,11 +91,6 @@ module _ {types : ℕ} {r : Round} (sound : Sound types r) where
         more = ltb-true _ _ (and-snd (isNone (getD (seatsAfter r state) i noSeat)) _ t);
       }
 
-  -- and who has a turn may offer
-  pub turn-may : {state : List ℕ} → Running r state → (i : ℕ) → MayTurn r state i → mayOffer r state (seatsAfter r state) i ≡ true
-  unfolding mayOffer rowBy
-  turn-may {state} run i may = rw (seat-unheld sound run i (may .inside) (may .none)) (lt-ltb _ _ (may .more))
-
   -- who may not offer is served
   pub not-offer : {state : List ℕ} → Running r state → (i : ℕ) → i < candidateCount r → mayOffer r state (seatsAfter r state) i ≡ false
       → Served (choiceOf r) (rowsOf r) (stateOf state) i
@@ -113,7 +104,7 @@ module _ {types : ℕ} {r : Round} (sound : Sound types r) where
           inr (omega (arith, reached-fits (run .reached) i))
 
   -- a turn, or nobody has one
-  pub turn-or-closed : {state : List ℕ} → Running r state → Next r state
+  turn-or-closed : {state : List ℕ} → Running r state → Next r state
   unfolding turn
   turn-or-closed {state} run = elim (decLt i (candidateCount r)) [
     | yes l ↦ inl (i, may-offer run i l (first-passes (candidateCount r) may l), ap (λ b. cond b (advanced state i) state) (lt-ltb i (candidateCount r) l))
@@ -140,12 +131,12 @@ module _ {types : ℕ} {r : Round} (sound : Sound types r) where
       go (inl (i, may, e)) = subst⁻¹ (Running r) e (turn-running run may)
       go (inr (c, e)) = subst⁻¹ (Running r) e run
 
-  pub turns-running : (k : ℕ) {state : List ℕ} → Running r state → Running r (turns r k state)
+  turns-running : (k : ℕ) {state : List ℕ} → Running r state → Running r (turns r k state)
   unfolding turns
   turns-running zero run = run
   turns-running (suc k) run = turns-running k (next-running run)
 
-  pub turns-final : (k : ℕ) {state : List ℕ} → Running r state → sum (candidateCount r) (λ i. rowsOf r i .len) ≤ sum (candidateCount r) (stateOf state) + k
+  turns-final : (k : ℕ) {state : List ℕ} → Running r state → sum (candidateCount r) (λ i. rowsOf r i .len) ≤ sum (candidateCount r) (stateOf state) + k
       → FinalIn r (turns r k state)
   unfolding turns
   turns-final zero {state} run few = go (turn-or-closed run)

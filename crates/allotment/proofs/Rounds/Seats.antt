@@ -14,10 +14,10 @@ use Rattle.round.specs.Lists.{first}
 use Rattle.round.specs.Round.{Round}
 use Rattle.round.specs.Sound.{Sound}
 use Rattle.round.proofs.Words.{tabulate-at}
+use Rattle.choice.proofs.Counting.{clash}
 use Rattle.allotment.specs.Rows.{categoryAt}
 use Rattle.allotment.specs.Offers.{placeOn, stepsOn, stepFor}
 use Rattle.allotment.specs.Process.{noSeat, candidateCount, instituteCount, madeTo, chosen, seatBy, seatsAfter}
-use Rattle.allotment.proofs.Market.Tests.{clash}
 use Rattle.allotment.proofs.Market.Laws.{Held, Unheld, held-or-not}
 use Rattle.allotment.proofs.Rounds.Numbered.{numberOf, number-same, number-back}
 use Rattle.allotment.proofs.Rounds.First.{first-only, first-none}

@@ -12,13 +12,14 @@ use Rattle.round.specs.declared.entry.Category.{Category}
 use Rattle.round.specs.Category.{categoryOf}
 use Rattle.round.specs.Round.{Round}
 use Rattle.round.specs.Sound.{Sound}
-use Rattle.round.proofs.Words.{and-fst, and-snd, and-no}
+use Rattle.round.proofs.Words.{and-fst, and-snd, and-no, or-cases}
+use Rattle.choice.proofs.Counting.{clash, or-right}
 use Rattle.allotment.specs.Rows.{rowAt, rankIn, entryOf}
 use Rattle.allotment.specs.Offers.{OfferSet, placeOn, stepsOn, stepFor}
 use Rattle.allotment.specs.Process.{noSeat, candidateCount, instituteCount, madeTo, tried, seats}
 use Rattle.allotment.specs.Standing.{standing}
 use Rattle.allotment.specs.Stable.{given, stepOf, OfRows, Same, together, WouldChoose, SomeBelow, Stable}
-use Rattle.allotment.proofs.Market.Tests.{clash, or-case, or-right, some-below}
+use Rattle.allotment.proofs.Market.Tests.{some-below}
 use Rattle.allotment.proofs.Market.Laws.{Offers}
 use Rattle.allotment.proofs.Market.Reached.{reached-fits}
 use Rattle.allotment.proofs.Market.Stable.{tried-all}
@@ -57,7 +58,7 @@ module _ {types : ℕ} {r : Round} (sound : Sound types r) where
     unfolding seats
     given-made i hi c t = held-made sound run i j c (sym (given-held sound run i j hi hj c) ∙ t)
 
-    pub seats-kept : (i : ℕ) → i < candidateCount r → stepFor r j (given r (seats r) j) i ≡ stepOf r (seats r) j i
+    seats-kept : (i : ℕ) → i < candidateCount r → stepFor r j (given r (seats r) j) i ≡ stepOf r (seats r) j i
     unfolding seats stepFor
     seats-kept i hi =
         ap (λ (l : List ℕ). getD l (placeOn r j i) 0) (steps-with-seats (given r (seats r) j) given-made (λ k hk c t. t))
@@ -120,14 +121,14 @@ module _ {types : ℕ} {r : Round} (sound : Sound types r) where
       would-same none would i c hi =
           let steps : stepsOn r j (together r (seats r) j set) ≡ stepsOn r j (madeTo r (tried r) j) =
           steps-with-seats (together r (seats r) j set)
-          (λ k hk d o. ⊎-elim (λ (t : set k d ≡ true). set-made none k d t) (λ (t : given r (seats r) j k d ≡ true). given-made k hk d t) (or-case (set k d) _ o))
+          (λ k hk d o. ⊎-elim (λ (t : set k d ≡ true). set-made none k d t) (λ (t : given r (seats r) j k d ≡ true). given-made k hk d t) (or-cases (set k d) _ o))
           (λ k hk d t. or-right (set k d) _ t) in
           sym (would i c hi)
           ∙ taken-by-steps r j (together r (seats r) j set) (madeTo r (tried r) j) steps i c
           ∙ taken-held sound run i j c hi hj
           ∙ sym (given-held sound run i j hi hj c)
 
-      pub set-unblocked : (Same r set (given r (seats r) j) → ⊥) → WouldChoose r (seats r) j set → SomeBelow r (seats r) j set
+      set-unblocked : (Same r set (given r (seats r) j) → ⊥) → WouldChoose r (seats r) j set → SomeBelow r (seats r) j set
       unfolding SomeBelow below
       set-unblocked other would = go (some-below (5 * candidateCount r) (λ e. below (e / 5) (categoryOf (e % 5))))
         where

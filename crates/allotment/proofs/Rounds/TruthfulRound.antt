@@ -14,12 +14,12 @@ use Rattle.round.specs.Category.{categoryOf}
 use Rattle.round.specs.Round.{Candidate, Institute, Round}
 use Rattle.round.specs.Places.{candidateAt, instituteAt, stepAt, noCandidate, noInstitute}
 use Rattle.round.specs.Sound.{Sound}
+use Rattle.choice.proofs.Counting.{clash}
 use Rattle.choice.proofs.Completion.{completion}
 use Rattle.allotment.specs.Rows.{rowAt, rankIn, entryOf}
 use Rattle.allotment.specs.Offers.{candidateOn, placeOn}
 use Rattle.allotment.specs.Process.{noSeat, candidateCount, instituteCount, madeTo, tried, seats}
 use Rattle.allotment.specs.Standing.{standing}
-use Rattle.allotment.proofs.Market.Tests.{clash}
 use Rattle.allotment.proofs.Market.Laws.{Offers}
 use Rattle.allotment.proofs.Market.Update.{split-at}
 use Rattle.allotment.proofs.Market.Rows.{Alike, offers}
@@ -47,7 +47,7 @@ choiceBy r n marks O i e =
     (λ p c. O (candidateOn r (e / 5) p) (numberOf (e / 5) c)) (placeOn r (e / 5) i) (categoryOf (e % 5))))
 
 -- rounds with the same institutes, and so many candidates with the same marks, are one market
-pub same-choice : (r r' : Round) → r .institutes ≡ r' .institutes → candidateCount r ≡ candidateCount r'
+same-choice : (r r' : Round) → r .institutes ≡ r' .institutes → candidateCount r ≡ candidateCount r'
     → ((k : ℕ) → candidateAt r k .marks ≡ candidateAt r' k .marks) → choiceOf r ≡ choiceOf r'
 unfolding choiceBy choiceOf completed placeOn
 same-choice r r' institutes number marks =

@@ -13,13 +13,14 @@ use Rattle.round.specs.declared.entry.Entry.{Entry}
 use Rattle.round.specs.Round.{Round}
 use Rattle.round.specs.Places.{candidateAt, entryAt}
 use Rattle.round.specs.Sound.{Sound}
-use Rattle.round.proofs.Words.{and-fst, and-snd}
+use Rattle.round.proofs.Words.{and-fst, and-snd, or-cases}
+use Rattle.choice.proofs.Counting.{or-right}
 use Rattle.choice.proofs.Offers.{same-self, same-category}
 use Rattle.allotment.specs.Rows.{rowAt, rankIn, entryOf, sameCategory}
 use Rattle.allotment.specs.Offers.{OfferSet, stepsOn}
 use Rattle.allotment.specs.Process.{candidateCount, instituteCount, madeTo, seatsAfter, mayOffer}
 use Rattle.allotment.specs.Stable.{given}
-use Rattle.allotment.proofs.Market.Tests.{same-test, or-case, or-right}
+use Rattle.allotment.proofs.Market.Tests.{same-test}
 use Rattle.allotment.proofs.Market.Update.{split-at}
 use Rattle.allotment.proofs.Market.Rows.{Ranked, offers-le}
 use Rattle.allotment.proofs.Market.Reached.{Turned, set-turned, turned-le}
@@ -81,7 +82,7 @@ module _ {types : ℕ} {r : Round} (sound : Sound types r) {state : List ℕ} (r
     abbrev category : Category
     category = newEntry r state i .category
 
-    pub institute-inside : j < instituteCount r
+    institute-inside : j < instituteCount r
     institute-inside = omega (arith, sound .candidate i hi .entry-to (getD state i 0) short)
 
     law : Ranked (rowsOf r i)
@@ -104,7 +105,7 @@ module _ {types : ℕ} {r : Round} (sound : Sound types r) {state : List ℕ} (r
 
     with-new-made : (p : ℕ) → p < candidateCount r → (c : Category) → heldAndNew r state i j p c ≡ true → madeTo r (advanced state i) j p c ≡ true
     unfolding heldAndNew
-    with-new-made p hp c t = go (or-case (given r (seatsAfter r state) j p c) _ t)
+    with-new-made p hp c t = go (or-cases (given r (seatsAfter r state) j p c) _ t)
       where
         go : (given r (seatsAfter r state) j p c ≡ true) ⊎ ((eqb p i && sameCategory category c) ≡ true) → madeTo r (advanced state i) j p c ≡ true
         go (inl g) =
@@ -119,7 +120,7 @@ module _ {types : ℕ} {r : Round} (sound : Sound types r) {state : List ℕ} (r
     unfolding heldAndNew
     held-with-new p hp c t =
         go
-        (or-case (held r state p (numberOf j c)) _
+        (or-cases (held r state p (numberOf j c)) _
         (held-or-new (round-market r sound) (rowsOf r) i law (turn .more) turned
         (λ q e. held r state q e || (eqb q i && eqb e (rowsOf r i .entry (getD state i 0))))
         (λ q e h. rw h)

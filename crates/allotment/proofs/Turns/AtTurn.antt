@@ -1,7 +1,7 @@
 -- A turn begins: the tables hold the seats, each seat stands for an offer, and candidate i's new one joins them.
 use Prim.Native.Nat.{ℕ, suc, _≤_, _<_}
 use mathlib.Core.Path.{_≡_, refl, sym, _∙_, ap}
-use mathlib.Core.Bool.{Bool, true, false, _&&_, _||_}
+use mathlib.Core.Bool.{Bool, true, false, _&&_, or-false}
 use mathlib.Core.Logic.{_≢_, _⊎_, inl, inr}
 use mathlib.Core.List.{List}
 use native.Mathlib.Omega.{arith}
@@ -87,10 +87,6 @@ eqb-suc a b = go (eqb a b) refl
 pub seat-eq : {a b x y : ℕ} → a ≡ x → b ≡ y → _≡_ {A = Seat} (record { institute = a; step = b }) (record { institute = x; step = y })
 seat-eq p q k = record { institute = p k; step = q k }
 
-or-none : (b : Bool) → (b || false) ≡ b
-or-none true = refl
-or-none false = refl
-
 -- the categories of the steps of each institute are those of document 01's step numbers
 abbrev pub Coded : Round → Type 0
 Coded r = (j k : ℕ) → j < instituteCount r → k ≢ 0 → k ≤ length (instituteAt r j .steps) → stepOffer k ≡ suc (codeOf (categoryAt r j k))
@@ -166,7 +162,7 @@ module _ {types : ℕ} {r : Round} {state : List ℕ} {i : ℕ} {holders steps :
     unfolding given
     given-not p c d = rw (ne-eqb (seat p .institute) (suc j) d)
 
-    pub given-there : (p : ℕ) (c : Category) → j < instituteCount r → stepIn r state j p ≢ 0 → seat p ≡ record { institute = suc j; step = stepIn r state j p }
+    given-there : (p : ℕ) (c : Category) → j < instituteCount r → stepIn r state j p ≢ 0 → seat p ≡ record { institute = suc j; step = stepIn r state j p }
         → given r (seatsAfter r state) j p c ≡ sameCategory (categoryAt r j (stepIn r state j p)) c
     unfolding given
     given-there p c hj d e =
@@ -203,7 +199,7 @@ module _ {types : ℕ} {r : Round} {state : List ℕ} {i : ℕ} {holders steps :
             ap (λ x. eqb x (suc (codeOf c))) offer-new ∙ eqb-suc (codeOf (newEntry r state i .category)) (codeOf c) ∙ sym back
 
         there : (p : ℕ) → p ≢ i → p < candidateCount r → offersBy offer p c ≡ heldAndNew r state i j p c
-        there p d h = given-is p d h c ∙ sym (rw (ne-eqb p i d) (or-none (given r (seatsAfter r state) j p c)))
+        there p d h = given-is p d h c ∙ sym (rw (ne-eqb p i d) (or-false (given r (seatsAfter r state) j p c)))
 
     pub institute-inside : j < instituteCount r
     unfolding mayOffer

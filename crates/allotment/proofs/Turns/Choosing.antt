@@ -26,13 +26,12 @@ use Rattle.round.proofs.Sound.{institute-at, length-institutes}
 use Rattle.choice.specs.Choice.{choose}
 use Rattle.choice.specs.Offers.{offeredBy}
 use Rattle.choice.specs.Gathers.{Gathers}
-use Rattle.choice.proofs.Counting.{test}
+use Rattle.choice.proofs.Counting.{test, clash}
 use Rattle.choice.proofs.Groups.{Closed}
 use Rattle.choice.proofs.Fewer.{Same, number-below, choose-gathered}
 use Rattle.allotment.specs.Offers.{candidateOn, placeOn, stepsOn, stepFor}
 use Rattle.allotment.specs.Turns.{stepOffer, rivalOf, marksOf, offersBy, holderBy, offersAt, takesPart, Gathered, Reseated, ChosenAnew, TurnTaken}
 use Rattle.allotment.specs.Tables.{Apart, Scattered, LeftFrom, KeptBelow}
-use Rattle.allotment.proofs.Market.Tests.{clash}
 use Rattle.allotment.proofs.Rounds.Places.{meritLength, candidate-at, candidate-below, place-of}
 use Rattle.allotment.proofs.Rounds.Completed.{marksOn, atPlaces}
 use Rattle.allotment.proofs.Turns.Groups.{Group, Parted}
@@ -191,7 +190,7 @@ module _ (r : Round) (j : ℕ) {n types : ℕ} (sound : SoundInstitute n types (
   module _ (found : List ℕ) {holders₀ holders : List ℕ} {number : ℕ} (called : number ≡ suc j)
       (h : Scattered (take k who) (λ q. holderBy number (getD found q 0)) k holders₀ holders) where
     -- nobody below the lowest number of those left has lost a seat
-    pub kept-below : {least : ℕ} → LeftFrom (take k who) found k least → KeptBelow least holders₀ holders
+    kept-below : {least : ℕ} → LeftFrom (take k who) found k least → KeptBelow least holders₀ holders
     kept-below {least} left c l had =
         test (takesPart r j offer c)
         (λ t.
@@ -200,7 +199,7 @@ module _ (r : Round) (j : ℕ) {n types : ℕ} (sound : SoundInstitute n types (
         rw (seat-at h c, t) (holder-kept (λ z. omega arith) step))
         (λ t. rw (seat-at h c, t) had)
 
-    pub reseated : {steps₀ steps : List ℕ} {rules : List StepRule} → k ≤ length marks → found ≡ choose (take k marks) (offeredBy (take k offers)) rules
+    reseated : {steps₀ steps : List ℕ} {rules : List StepRule} → k ≤ length marks → found ≡ choose (take k marks) (offeredBy (take k offers)) rules
         → rules ≡ instituteAt r j .steps → Scattered (take k who) (λ q. getD found q 0) k steps₀ steps
         → Reseated r j offer (stepFor r j (offersBy offer)) holders₀ steps₀ holders steps
     unfolding stepFor

@@ -15,11 +15,10 @@ use Rattle.round.specs.Round.{Round}
 use Rattle.round.specs.Places.{candidateAt, instituteAt, meritAt}
 use Rattle.round.specs.Reading.{roundOf}
 use Rattle.choice.specs.Gathers.{Gathers}
-use Rattle.choice.proofs.Counting.{test, bit-true, bit-false, bit-max}
+use Rattle.choice.proofs.Counting.{test, clash, bit-true, bit-false, bit-max}
 use Rattle.choice.proofs.Fewer.{number-below}
 use Rattle.allotment.specs.Offers.{candidateOn}
 use Rattle.allotment.specs.Turns.{rivalOf, marksOf, offersAt, Gathered}
-use Rattle.allotment.proofs.Market.Tests.{clash}
 
 module _ (X : ℕ → Bool) where
   pub count-most : (p : ℕ) → count p X ≤ p

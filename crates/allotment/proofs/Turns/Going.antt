@@ -16,18 +16,18 @@ use Rattle.round.specs.Lists.{first}
 use Rattle.round.specs.Round.{Round}
 use Rattle.round.specs.Sound.{Sound}
 use Rattle.round.proofs.Words.{and-fst, and-snd}
+use Rattle.choice.proofs.Counting.{clash, false-unless}
 use Rattle.allotment.specs.Rows.{rowAt, rankIn, entryOf}
 use Rattle.allotment.specs.Process.{Seat, noSeat, isNone, candidateCount, madeTo, seatsAfter, mayOffer, turn, turns, entryTotal, tried, offersMade, seats}
 use Rattle.allotment.specs.Held.{HeldIn}
 use Rattle.allotment.specs.Turns.{mayTry, NobodyBelow, TurnTaken}
 use Rattle.allotment.specs.Tables.{KeptBelow}
-use Rattle.allotment.proofs.Market.Tests.{clash, is-false}
 use Rattle.allotment.proofs.Market.Sums.{sum, sum-le}
 use Rattle.allotment.proofs.Rounds.Numbered.{rowsOf, row-length}
 use Rattle.allotment.proofs.Rounds.First.{first-within, first-passes, first-before, first-least, first-none}
 use Rattle.allotment.proofs.Rounds.Running.{stateOf, Running}
 use Rattle.allotment.proofs.Rounds.Seats.{stepIn, Seated, Unseated, seat-of}
-use Rattle.allotment.proofs.Rounds.Process.{start-running, advanced, turn-running, turn-sum, may-offer}
+use Rattle.allotment.proofs.Rounds.Process.{start-running, advanced, turn-running, turn-sum, turns-still, may-offer}
 use Rattle.allotment.proofs.Rounds.Counted.{entries, state-sum, state-most}
 use Rattle.allotment.proofs.Rounds.Turn.{newEntry}
 use Rattle.allotment.proofs.Rounds.Bounds.{seats-length}
@@ -51,11 +51,6 @@ first-same n f g same = elim (decLt (first n g) n) [
   | no l ↦
       first-none n f (λ k m. same k m ∙ first-before n g k (omega arith)) ∙ (let e : n ≡ first n g = omega (arith, first-within n g) in e)
 ]
-
-turns-still : (r : Round) (k : ℕ) (state : List ℕ) → turn r state ≡ state → turns r k state ≡ state
-unfolding turns
-turns-still r zero state e = refl
-turns-still r (suc k) state e = ap (turns r k) e ∙ turns-still r k state e
 
 sum-sixteens : (k : ℕ) → sum k (λ i. 16) ≡ 16 * k
 unfolding sum
@@ -207,7 +202,7 @@ module _ {types : ℕ} {r : Round} (sound : Sound types r) where
     going-low {i} e {from} l {state'} {holders'} t kept c below =
         let same : getD state' c 0 ≡ getD state c 0 = ap (λ (s : List ℕ). getD s c 0) (t .one-more) ∙ getD-set-other state i c _ 0 (λ z. omega arith) in
         let before : mayTry r state holders c ≡ false = first-before (candidateCount r) (mayTry r state holders) c (omega arith) in
-        is-false _
+        false-unless _
         (λ now.
         let free : getD holders' c 0 ≡ 0 = eqb-true _ 0 (and-fst (eqb (getD holders' c 0) 0) _ now) in
         let untried : ltb (getD state c 0) (length (rowAt r c)) ≡ true =

@@ -1,7 +1,7 @@
 -- Offers that do not compete do not bear on each other: an institute gives the same steps to a group of offers whatever the others are.
 use Prim.Native.Nat.{ℕ, suc, _<_}
 use mathlib.Core.Path.{_≡_, refl, sym, _∙_, ap}
-use mathlib.Core.Bool.{Bool, true, false, not, _&&_, _||_}
+use mathlib.Core.Bool.{Bool, true, false, not, _&&_, _||_, and-false, or-true}
 use native.Mathlib.Omega.{arith}
 use native.Mathlib.Decide.{decLt}
 use lib.Dec.{eqb}
@@ -11,12 +11,12 @@ use Rattle.round.specs.declared.entry.Category.{Category}
 use Rattle.round.specs.Category.{codeOf}
 use Rattle.round.specs.Round.{Round}
 use Rattle.round.specs.Places.{instituteAt}
-use Rattle.choice.proofs.Counting.{test}
+use Rattle.choice.proofs.Counting.{test, clash}
 use Rattle.choice.proofs.Groups.{Closed, choose-group}
 use Rattle.allotment.specs.Offers.{candidateOn, placeOn, stepsOn, stepFor}
 use Rattle.allotment.specs.Process.{instituteCount}
 use Rattle.allotment.specs.Turns.{stepOffer, shares, compete, offersBy}
-use Rattle.allotment.proofs.Market.Tests.{clash, same-test}
+use Rattle.allotment.proofs.Market.Tests.{same-test}
 use Rattle.allotment.proofs.Rounds.Places.{meritLength, candidate-at}
 use Rattle.allotment.proofs.Rounds.Completed.{marksOn, atPlaces}
 use Rattle.allotment.proofs.Rounds.Agreed.{step-absent}
@@ -30,18 +30,10 @@ pub record Group (G : ℕ → Bool) : Type 0 where
 abbrev pub Parted : Round → Type 0
 Parted r = (j : ℕ) → j < instituteCount r → (G : ℕ → Bool) → Group G → Closed (λ c. G (suc (codeOf c))) (λ k. G (stepOffer k)) 1 (instituteAt r j .steps)
 
-or-true : (b : Bool) → (b || true) ≡ true
-or-true true = refl
-or-true false = refl
-
-pub and-none : (b : Bool) → (b && false) ≡ false
-and-none true = refl
-and-none false = refl
-
 -- those that may compete with an offer are a group
 pub rivals : (new : ℕ) → 0 < new → Group (compete new)
 unfolding compete
-rivals new some = record { none = rw (ne-eqb 0 new (λ e. omega arith)) (and-none (shares new)); joint = joint (shares new) refl }
+rivals new some = record { none = rw (ne-eqb 0 new (λ e. omega arith)) (and-false (shares new)); joint = joint (shares new) refl }
   where
     joint : (b : Bool) → shares new ≡ b → (eqb 1 new || (shares new && true)) ≡ (eqb 4 new || (shares new && true))
     joint true e = rw e (or-true (eqb 1 new) ∙ sym (or-true (eqb 4 new)))

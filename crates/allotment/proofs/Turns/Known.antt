@@ -3,7 +3,7 @@ use Prim.Native.Nat.{ℕ, zero, suc, _-_, _≤_, _<_}
 use mathlib.Core.Path.{_≡_, refl, sym, _∙_, ap}
 use mathlib.Core.List.{List, [], _∷_, _++_}
 use native.Mathlib.Omega.{arith}
-use lib.ListN.{length, take, drop, replicate, length-replicate}
+use lib.ListN.{length, drop, replicate, length-replicate}
 use Rattle.round.specs.declared.entry.Entry.{Entry}
 use Rattle.round.specs.declared.head.Head.{Head as CodeHead}
 use Rattle.round.specs.Records.{Head, headOf}
@@ -52,13 +52,13 @@ module _ {file : List ℕ} {h : CodeHead} {candidates merits : List ℕ} (at : A
   pub candidates-are : h .candidates ≡ headOf file .candidates
   candidates-are = ap (λ (x : Head). x .candidates) (at .head)
 
-  pub institutes-are : h .institutes ≡ headOf file .institutes
+  institutes-are : h .institutes ≡ headOf file .institutes
   institutes-are = ap (λ (x : Head). x .institutes) (at .head)
 
   pub candidates-many : candidateCount (roundOf file) ≡ h .candidates
   candidates-many = length-candidates file ∙ sym candidates-are
 
-  pub institutes-many : instituteCount (roundOf file) ≡ h .institutes
+  institutes-many : instituteCount (roundOf file) ≡ h .institutes
   institutes-many = length-institutes file ∙ sym institutes-are
 
   pub round-sound : Sound (headOf file .types) (roundOf file)
@@ -99,12 +99,6 @@ module _ {file : List ℕ} {h : CodeHead} {candidates merits : List ℕ} (at : A
 -- a table of zeros has its length
 pub sized : (n : ℕ) {table : List ℕ} → table ≡ replicate n 0 → length table ≡ n
 sized n e = ap length e ∙ length-replicate n 0
-
--- the first zeros of a table of zeros
-pub front-zeros : (m n : ℕ) → m ≤ n → take m (replicate n zero) ≡ replicate m zero
-front-zeros zero n l = refl
-front-zeros (suc m) zero l = absurd (omega arith)
-front-zeros (suc m) (suc n) l = ap (λ (t : List ℕ). zero ∷ t) (front-zeros m n (omega arith))
 
 drop-all : (n : ℕ) (l : List ℕ) → length l ≡ n → drop n l ≡ []
 drop-all zero [] e = refl

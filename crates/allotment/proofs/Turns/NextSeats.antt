@@ -11,12 +11,12 @@ use lib.ListN.{getD}
 use borrow.Author.Tests.{lt-ltb, eqb-true, eqb-false, ne-eqb}
 use Rattle.round.specs.Category.{codeOf}
 use Rattle.round.specs.Round.{Round}
+use Rattle.choice.proofs.Counting.{clash}
 use Rattle.allotment.specs.Rows.{categoryAt}
 use Rattle.allotment.specs.Offers.{placeOn, stepFor}
 use Rattle.allotment.specs.Process.{Seat, noSeat, candidateCount, instituteCount, madeTo, seatsAfter}
 use Rattle.allotment.specs.Held.{HeldIn}
 use Rattle.allotment.specs.Turns.{stepOffer, offerOf, offersBy, holderBy, takesPart, Reseated, ChosenAnew}
-use Rattle.allotment.proofs.Market.Tests.{clash}
 use Rattle.allotment.proofs.Rounds.Places.{meritLength}
 use Rattle.allotment.proofs.Rounds.Agreed.{step-number}
 use Rattle.allotment.proofs.Rounds.Running.{Running}

@@ -1,7 +1,7 @@
 -- The choice among the new offer and those that may compete with it leaves the seats that the choice among all leaves.
 use Prim.Native.Nat.{ℕ, suc, _<_}
 use mathlib.Core.Path.{_≡_, refl, sym, _∙_, ap}
-use mathlib.Core.Bool.{Bool, true, false, cond, not, _&&_}
+use mathlib.Core.Bool.{Bool, true, false, cond, not, _&&_, and-false}
 use mathlib.Core.Logic.{_≢_}
 use mathlib.Core.List.{List}
 use native.Mathlib.Omega.{arith}
@@ -13,13 +13,12 @@ use Rattle.round.specs.declared.entry.Category.{Category}
 use Rattle.round.specs.Category.{codeOf}
 use Rattle.round.specs.Round.{Round}
 use Rattle.round.proofs.Words.{and-fst, and-snd}
-use Rattle.choice.proofs.Counting.{test}
+use Rattle.choice.proofs.Counting.{test, clash}
 use Rattle.allotment.specs.Rows.{categoryAt}
 use Rattle.allotment.specs.Offers.{placeOn, stepFor}
 use Rattle.allotment.specs.Process.{candidateCount, madeTo, seatsAfter}
 use Rattle.allotment.specs.Stable.{given}
 use Rattle.allotment.specs.Turns.{stepOffer, offerOf, compete, rivalOf, offersBy, holderBy, takesPart, Reseated, ChosenAnew}
-use Rattle.allotment.proofs.Market.Tests.{clash}
 use Rattle.allotment.proofs.Market.Update.{split-at}
 use Rattle.allotment.proofs.Rounds.Places.{meritLength}
 use Rattle.allotment.proofs.Rounds.Completed.{completed, completed-within}
@@ -28,7 +27,7 @@ use Rattle.allotment.proofs.Rounds.Running.{held-at, one-at}
 use Rattle.allotment.proofs.Rounds.Seats.{stepIn}
 use Rattle.allotment.proofs.Rounds.Turn.{newEntry}
 use Rattle.allotment.proofs.Rounds.Given.{given-held}
-use Rattle.allotment.proofs.Turns.Groups.{Group, and-none, rivals, others, group-step}
+use Rattle.allotment.proofs.Turns.Groups.{Group, rivals, others, group-step}
 use Rattle.allotment.proofs.Turns.AtTurn.{AtTurn, holder-is, none-yet, seat-there, offer-new, offer-none, offer-there, given-not, given-is, institute-inside, part-offers}
 
 module _ {types : ℕ} {r : Round} {state : List ℕ} {i : ℕ} {holders steps : List ℕ} (known : AtTurn types r state i holders steps) where
@@ -130,7 +129,7 @@ module _ {types : ℕ} {r : Round} {state : List ℕ} {i : ℕ} {holders steps :
 
     part-out : (c : ℕ) → compete new (offer c) ≡ false → takesPart r j rival c ≡ false
     unfolding takesPart
-    part-out c g = ap (λ x. ltb (placeOn r j c) (meritLength r j) && not (eqb x 0)) (rival-out c g) ∙ and-none (ltb (placeOn r j c) (meritLength r j))
+    part-out c g = ap (λ x. ltb (placeOn r j c) (meritLength r j) && not (eqb x 0)) (rival-out c g) ∙ and-false (ltb (placeOn r j c) (meritLength r j))
 
     -- who has an offer and is no rival is held, with the step chosen
     held-still : (c : ℕ) → c < candidateCount r → offer c ≢ 0 → compete new (offer c) ≡ false → (getD holders c 0 ≡ suc j) × (chosen c ≢ 0) × (getD steps c 0 ≡ chosen c)

@@ -7,8 +7,9 @@ use lib.ListN.{take}
 use lib.Seq.{length-take-le}
 use denote.Ref.{now}
 use Rattle.round.specs.declared.head.Head.{Head}
+use Rattle.choice.proofs.Steps.{take-replicate}
 use Rattle.allotment.specs.Held.{AtHand}
-use Rattle.allotment.proofs.Turns.Known.{round-sound, candidates-many, sized, front-zeros, cleared}
+use Rattle.allotment.proofs.Turns.Known.{round-sound, candidates-many, sized, cleared}
 use borrow.Author.Needs.{needs}
 use Rattle.allotment.proofs.process.run_offers.Statement.{statement}
 use Rattle.allotment.proofs.process.run_offers.Tie as tie
@@ -37,7 +38,7 @@ take-turns-requires c κs =
     let pre = c .before .before .before .before .before .before .before .before .before .before .before .before .before .before .before .before .before .pre in (
       pre .0,
       (
-        ap (λ (t : List ℕ). take (a .h .candidates) t) (c .before .before .before .zeros .ensures) ∙ front-zeros (a .h .candidates) 512 (candidates-few (pre .0)),
+        ap (λ (t : List ℕ). take (a .h .candidates) t) (c .before .before .before .zeros .ensures) ∙ take-replicate (a .h .candidates) 512 (candidates-few (pre .0)),
         cleared _ (now (a .holders)) (pre .1 .0) (c .before .before .before .before .before .before .before .before .before .before .clear .ensures),
         cleared _ (now (a .steps)) (pre .1 .1) (c .before .before .before .before .before .before .clear2 .ensures),
       ),
