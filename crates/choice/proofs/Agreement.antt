@@ -12,7 +12,7 @@ use borrow.Author.Tests.{not-true, eqb-true, eqb-false}
 use Rattle.round.specs.declared.entry.Category.{Category}
 use Rattle.round.specs.Round.{StepRule}
 use Rattle.round.specs.Lists.{sum}
-use Rattle.round.proofs.Words.{and-fst, and-snd}
+use Rattle.round.proofs.Words.{and-fst, and-snd, tabulate-at}
 use Rattle.choice.specs.Choice.{Progress, considers, positionsAt, takenAt, vacantAt, advance, advanceAll, nothingDone, choose}
 use Rattle.choice.proofs.Counting.{clash, false-unless}
 use Rattle.choice.proofs.Sets.{left-if-out}
@@ -20,7 +20,6 @@ use Rattle.choice.proofs.Filling.{TakesForUse, taken-within, taken-irre
 use Rattle.choice.proofs.Completion.{Lawful, Completing, positionsIn, takenIn, complete, completeAll, allLeft, completion, left-before, completion-within}
 use Rattle.choice.proofs.Offers.{Offers, WithinBelow, Alone, same, same-self, same-category}
 use Rattle.choice.proofs.Chosen.{takenUnder, under-none, under-some, choose-number}
-use Rattle.choice.proofs.Tabulate.{getD-tabulate}
 use Rattle.choice.proofs.Below.{progress-below}
 
 -- the steps noted are those under which the offers of Y that are gone were taken
@@ -95,7 +94,7 @@ module _ (marks : List ℕ) (taking : TakesForUse marks)
 
     given-then : (p : ℕ) → p < length marks → getD (complete marks k rule now .done .given) p 0 ≡ cond (takenIn marks k rule now p) k (getD (now .done .given) p 0)
     unfolding complete
-    given-then p l = getD-tabulate (length marks) (λ q. cond (takenIn marks k rule now q) k (getD (now .done .given) q 0)) p 0 l
+    given-then p l = tabulate-at (length marks) (λ q. cond (takenIn marks k rule now q) k (getD (now .done .given) q 0)) 0 p l
 
     step-agrees : ((c : Category) → under k c ≡ same c (rule .category)) → Agrees (length marks) under Y' (complete marks k rule now)
     unfolding complete

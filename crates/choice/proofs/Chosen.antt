@@ -8,12 +8,12 @@ use lib.Dec.{eqb}
 use lib.ListN.{length, getD, length-replicate}
 use Rattle.round.specs.declared.entry.Category.{Category}
 use Rattle.round.specs.Round.{StepRule}
-use Rattle.round.proofs.Words.{and-fst}
+use Rattle.round.proofs.Words.{and-fst, length-tabulate, tabulate-at}
 use Rattle.choice.specs.Step.{raises, takenBefore, takenForUse, remaining, takenByMerit, taken}
 use Rattle.choice.specs.Choice.{Progress, considers, takenAt, advance, advanceAll, nothingDone, choose}
 use Rattle.choice.proofs.Counting.{clash}
 use Rattle.choice.proofs.Offers.{Offers, same, same-self, same-category}
-use Rattle.choice.proofs.Tabulate.{length-tabulate, getD-tabulate, tabulate-bound, getD-zeros}
+use Rattle.choice.proofs.Tabulate.{tabulate-bound, getD-zeros}
 
 -- k is the number, from 1, of a rule of this category
 abbrev pub takenUnder : List StepRule → ℕ → Category → Bool
@@ -44,7 +44,7 @@ module _ (marks : List ℕ) (Y : Offers) where
   all-length : (rules : List StepRule) (k : ℕ) (done : Progress) → length (done .given) ≡ length marks → length (advanceAll marks Y k rules done .given) ≡ length marks
   unfolding advanceAll advance
   all-length [] k done e = e
-  all-length (rule ∷ rules) k done e = all-length rules (suc k) (advance marks Y k rule done) (length-tabulate (length marks) _)
+  all-length (rule ∷ rules) k done e = all-length rules (suc k) (advance marks Y k rule done) (length-tabulate 0 (length marks) _)
 
   pub choose-length : (rules : List StepRule) → length (choose marks Y rules) ≡ length marks
   unfolding choose nothingDone
@@ -69,7 +69,7 @@ module _ (marks : List ℕ) (Y : Offers) where
   step-offered : (under : ℕ → Category → Bool) (k : ℕ) (rule : StepRule) (done : Progress) → ((p : ℕ) → p < length marks → (c : Category) → under (getD (done .given) p 0) c ≡ true → Y p c ≡ true) → ((c : Category) → under k c ≡ same c (rule .category)) → (p : ℕ) → p < length marks → (c : Category) → under (getD (advance marks Y k rule done .given) p 0) c ≡ true → Y p c ≡ true
   unfolding advance takenAt considers
   step-offered under k rule done low number p l c t =
-      go (takenAt marks Y k rule done p) refl (sym (ap (λ (g : ℕ). under g c) (getD-tabulate (length marks) (λ q. cond (takenAt marks Y k rule done q) k (getD (done .given) q 0)) p 0 l)) ∙ t)
+      go (takenAt marks Y k rule done p) refl (sym (ap (λ (g : ℕ). under g c) (tabulate-at (length marks) (λ q. cond (takenAt marks Y k rule done q) k (getD (done .given) q 0)) 0 p l)) ∙ t)
     where
       go : (b : Bool) → takenAt marks Y k rule done p ≡ b → under (cond b k (getD (done .given) p 0)) c ≡ true → Y p c ≡ true
       go true e u =

@@ -104,6 +104,17 @@ count-le zero X Y h = omega arith
 count-le (suc n) X Y h =
     omega (arith, bit-le (X n) (Y n) (h n (omega arith)), count-le n X Y (λ i l. h i (omega arith)))
 
+-- a test that passes less often, and misses a number that the other has
+pub count-less : (n c : ℕ) (X Y : ℕ → Bool) → c < n → ((p : ℕ) → p < n → X p ≡ true → Y p ≡ true) → X c ≡ false → Y c ≡ true
+    → count n X < count n Y
+count-less zero c X Y l h x y = absurd (omega arith)
+count-less (suc n) c X Y l h x y =
+    below c n l
+    (λ less. omega (arith, bit-le (X n) (Y n) (h n (omega arith)), count-less n c X Y less (λ p m. h p (omega arith)) x y))
+    (λ same.
+    omega
+    (arith, bit-false (X n) (ap X (sym same) ∙ x), bit-true (Y n) (ap Y (sym same) ∙ y), count-le n X Y (λ p m. h p (omega arith))))
+
 pub sumOf-ext : (n : ℕ) (f g : ℕ → ℕ) → ((i : ℕ) → i < n → f i ≡ g i) → sumOf n f ≡ sumOf n g
 sumOf-ext zero f g h = refl
 sumOf-ext (suc n) f g h = omega (arith, h n (omega arith), sumOf-ext n f g (λ i l. h i (omega arith)))

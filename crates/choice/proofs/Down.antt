@@ -13,8 +13,8 @@ use Rattle.choice.specs.Use.{holds, Placing}
 use Rattle.choice.specs.Step.{raises, takenForUse}
 use Rattle.choice.specs.Search.{atType, Moved, Stuck, Searched}
 use Rattle.choice.specs.Taken.{Attempted, Took}
-use Rattle.choice.proofs.Counting.{lessOr, sameOr, count-le}
-use Rattle.choice.proofs.Counts.{count-more, count-within, count-rest, bit-true, bit-false}
+use Rattle.choice.proofs.Counting.{lessOr, sameOr, bit-true, bit-false, count-le}
+use Rattle.choice.proofs.Counts.{count-more, count-within, count-rest}
 use Rattle.choice.proofs.Use.{placed, PlacingTo, placed-raises}
 use Rattle.choice.proofs.Tight.{placed-blocked}
 use Rattle.choice.proofs.Taking.{takenForUse-considered, takenBefore-placed}
@@ -106,7 +106,7 @@ module _ (reserved marks : List ℕ) (X : ℕ → Bool) where
       placing = d .placing;
       each = λ q l. sameOr q p (λ s. rw s (left ∙ sym unplaced)) (λ o. d .each q (omega arith));
       rest = λ q l. d .rest q (omega arith);
-      number = omega (arith, count-more H p n 0 (d .number) (bit-false left));
+      number = omega (arith, count-more H p n 0 (d .number) (bit-false (H p) left));
       full = d .full;
       closed = d .closed;
     }
@@ -134,7 +134,7 @@ module _ (reserved marks : List ℕ) (X : ℕ → Bool) where
       placing = m .placing;
       each = λ q l. sameOr q p (λ s. rw s (taken ∙ sym (lt-ltb 0 _ (m .reached)))) (λ o. same q (omega arith));
       rest = λ q l. m .apart q (λ s. omega arith) (d .rest q (omega arith));
-      number = count-more H p n 1 (d .number) (bit-true taken);
+      number = count-more H p n 1 (d .number) (bit-true (H p) taken);
       full = λ t v. omega (arith, d .full t v, more t v);
       closed = λ q t u v e. d .closed q t u v (m .comes q t v e .0);
     }
@@ -171,7 +171,7 @@ module _ (reserved marks : List ℕ) (X : ℕ → Bool) where
           placing = d .placing;
           each = λ q l. sameOr q p (λ e. rw e (left ∙ sym unplaced)) (λ o. d .each q (omega arith));
           rest = λ q l. d .rest q (omega arith);
-          number = omega (arith, count-more H p n 0 (d .number) (bit-false left));
+          number = omega (arith, count-more H p n 0 (d .number) (bit-false (H p) left));
           full = full;
           closed = closed;
         }

@@ -10,12 +10,13 @@ use borrow.Author.Tests.{ltb-true, ltb-false}
 use Rattle.round.specs.declared.entry.Category.{Category}
 use Rattle.round.specs.Round.{StepRule}
 use Rattle.round.specs.Lists.{count}
+use Rattle.round.proofs.Words.{tabulate-at}
 use Rattle.choice.specs.Step.{takenBefore, takenForUse, remaining, takenByMerit, taken}
 use Rattle.choice.specs.Choice.{Progress, considers, positionsAt, takenAt, vacantAt, advance, advanceAll, nothingDone, choose}
 use Rattle.choice.specs.Gathers.{Gathers}
 use Rattle.choice.proofs.Counting.{test, bit-true}
 use Rattle.choice.proofs.Offers.{Offers}
-use Rattle.choice.proofs.Tabulate.{getD-tabulate, getD-zeros}
+use Rattle.choice.proofs.Tabulate.{getD-zeros}
 
 -- more places, no fewer of the set
 pub count-more : (X : ℕ → Bool) (a b : ℕ) → a ≤ b → count a X ≤ count b X
@@ -118,9 +119,9 @@ module _ (G : ℕ → Bool) (n : ℕ) (marks marks' : List ℕ) (whole : length 
       let t = same-at k rule done done' a in
       record {
         inside = λ p l g.
-            getD-tabulate (length marks') _ (count p G) 0 (omega (arith, few, number-below G p n l g))
-            ∙ rw (t .inside p l g, a .inside p l g) (sym (getD-tabulate (length marks) _ p 0 (omega (arith, whole))));
-        outside = λ p l g. getD-tabulate (length marks) _ p 0 (omega (arith, whole)) ∙ rw (t .outside p l g) (a .outside p l g);
+            tabulate-at (length marks') _ 0 (count p G) (omega (arith, few, number-below G p n l g))
+            ∙ rw (t .inside p l g, a .inside p l g) (sym (tabulate-at (length marks) _ 0 p (omega (arith, whole))));
+        outside = λ p l g. tabulate-at (length marks) _ 0 p (omega (arith, whole)) ∙ rw (t .outside p l g) (a .outside p l g);
         alike = λ j. rw (a .alike j, same-vacant k rule done done' a);
       }
 

@@ -10,7 +10,8 @@ use borrow.Author.Tests.{lt-ltb, le-ltb}
 use Rattle.round.specs.Lists.{count, bit}
 use Rattle.choice.specs.Offers.{considersBy}
 use Rattle.choice.specs.Fill.{restAt, seatsAt}
-use Rattle.choice.proofs.Counts.{count-more, bit-true, bit-false}
+use Rattle.choice.proofs.Counting.{bit-true, bit-false}
+use Rattle.choice.proofs.Counts.{count-more}
 use Rattle.choice.proofs.Written.{Written, begin, write, keep}
 
 -- what a place holds after the step
@@ -53,7 +54,7 @@ module _ (number wanted free : ℕ) (offers placed given : List ℕ) where
         let typed : ltb 0 (getD placed p 0) ≡ true = lt-ltb 0 _ l in
         let out : rest p ≡ false = rw typed (and-false (X p)) in
         record {
-          number-filled = omega (arith, k .number-filled, one-more 0 (bit-false out));
+          number-filled = omega (arith, k .number-filled, one-more 0 (bit-false (rest p) out));
           written = write given steps _ p number inside (k .written) (rw typed);
         }
 
@@ -67,7 +68,7 @@ module _ (number wanted free : ℕ) (offers placed given : List ℕ) where
           let left : rest p ≡ true = rw (untyped, in-play) in
           let room : ltb (count p rest) free ≡ true = lt-ltb (count p rest) free (omega (arith, k .number-filled)) in
           record {
-            number-filled = omega (arith, k .number-filled, one-more 1 (bit-true left));
+            number-filled = omega (arith, k .number-filled, one-more 1 (bit-true (rest p) left));
             written = write given steps _ p number inside (k .written) (rw (untyped, in-play, room));
           }
 
@@ -76,7 +77,7 @@ module _ (number wanted free : ℕ) (offers placed given : List ℕ) where
       left-out out =
           let gone : rest p ≡ false = rw out in
           record {
-            number-filled = omega (arith, k .number-filled, one-more 0 (bit-false gone));
+            number-filled = omega (arith, k .number-filled, one-more 0 (bit-false (rest p) gone));
             written = keep given steps _ p (k .written) (rw (untyped, out));
           }
 

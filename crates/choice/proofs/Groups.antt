@@ -7,13 +7,12 @@ use lib.ListN.{length, getD}
 use borrow.Author.Tests.{ne-eqb}
 use Rattle.round.specs.declared.entry.Category.{Category}
 use Rattle.round.specs.Round.{StepRule}
-use Rattle.round.proofs.Words.{and-fst}
+use Rattle.round.proofs.Words.{and-fst, tabulate-at}
 use Rattle.choice.specs.Choice.{Progress, considers, positionsAt, takenAt, vacantAt, advance, advanceAll, nothingDone, choose}
 use Rattle.choice.proofs.Counting.{test, clash, false-unless, count-ext}
 use Rattle.choice.proofs.Offers.{Offers}
 use Rattle.choice.proofs.Below.{taken-below}
 use Rattle.choice.proofs.Chosen.{taken-considered}
-use Rattle.choice.proofs.Tabulate.{getD-tabulate}
 
 -- the steps of the rules, numbered from k, that are in the group are those of its categories, and no other hands positions to one of them
 abbrev pub Closed : (Category → Bool) → (ℕ → Bool) → ℕ → List StepRule → Type 0
@@ -67,7 +66,7 @@ module _ (marks : List ℕ) (K : Category → Bool) (P : ℕ → Bool) (Y Y' : O
   step-alike k rule number closed done done' a = test (K (rule .category)) inside outside
     where
       given-then : (Z : Offers) (now : Progress) (p : ℕ) → p < length marks → getD (advance marks Z k rule now .given) p 0 ≡ cond (takenAt marks Z k rule now p) k (getD (now .given) p 0)
-      given-then Z now p l = getD-tabulate (length marks) _ p 0 l
+      given-then Z now p l = tabulate-at (length marks) _ 0 p l
 
       inside : K (rule .category) ≡ true → Alike (advance marks Y k rule done) (advance marks Y' k rule done')
       inside g = record {

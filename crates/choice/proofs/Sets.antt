@@ -3,11 +3,10 @@ use Prim.Native.Nat.{ℕ, zero, suc, _+_, _-_, _≤_, _<_, min}
 use mathlib.Core.Path.{_≡_, refl}
 use mathlib.Core.Bool.{Bool, true, false, not, _&&_, _||_, false≢true}
 use native.Mathlib.Omega.{arith}
-use native.Mathlib.Decide.{ℕ-discrete}
 use lib.Dec.{ltb}
 use borrow.Author.Tests.{ltb-true, ltb-false}
 use Rattle.round.specs.Lists.{bit, count}
-use Rattle.choice.proofs.Counting.{clash, bit-le, count-le}
+use Rattle.choice.proofs.Counting.{clash, count-less}
 
 pub left-if-out : (y l : Bool) → y ≡ true → (y && not l) ≡ false → l ≡ true
 left-if-out y true e f = refl
@@ -20,25 +19,13 @@ out-if-left false true e = refl
 out-if-left true false e = clash e refl
 out-if-left false false e = refl
 
-count-strict : (n : ℕ) (X Y : ℕ → Bool) → ((p : ℕ) → p < n → X p ≡ true → Y p ≡ true) → (p : ℕ) → p < n → X p ≡ false → Y p ≡ true → count n X < count n Y
-count-strict zero X Y h p l f t = absurd (omega arith)
-count-strict (suc n) X Y h p l f t =
-    go (ℕ-discrete p n) (λ below. count-strict n X Y (λ r m. h r (omega arith)) p below f t)
-  where
-    go : Dec (p ≡ n) → (p < n → count n X < count n Y) → count (suc n) X < count (suc n) Y
-    go (yes e) ih =
-        let out : X n ≡ false = cc in
-        let into : Y n ≡ true = cc in
-        rw (out, into) (omega (arith, count-le n X Y (λ r m. h r (omega arith))))
-    go (no e) ih = omega (arith, ih (omega arith), bit-le (X n) (Y n) (h n (omega arith)))
-
 -- a set within another that has no more is that set
 pub same-by-count : (n : ℕ) (X Y : ℕ → Bool) → ((p : ℕ) → p < n → X p ≡ true → Y p ≡ true) → count n Y ≤ count n X → (p : ℕ) → p < n → X p ≡ Y p
 same-by-count n X Y h c p l = go (X p) (Y p) refl refl
   where
     go : (a b : Bool) → X p ≡ a → Y p ≡ b → X p ≡ Y p
     go true b e f = cc (h p l e)
-    go false true e f = absurd (omega (arith, count-strict n X Y h p l e f))
+    go false true e f = absurd (omega (arith, count-less n p X Y l h e f))
     go false false e f = cc
 
 bit-split : (x h : Bool) → (h ≡ true → x ≡ true) → bit x ≡ bit h + bit (x && not h)

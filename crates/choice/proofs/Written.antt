@@ -1,11 +1,12 @@
 -- A list that is written from the front, one place after the other: where it stands, and what it comes to.
-use Prim.Native.Nat.{ℕ, zero, suc, _+_, _≤_, _<_}
+use Prim.Native.Nat.{ℕ, _+_, _≤_, _<_}
 use mathlib.Core.Path.{_≡_, refl, sym, _∙_}
 use mathlib.Core.List.{List}
 use native.Mathlib.Omega.{arith}
 use lib.ListN.{length, getD, set, length-set}
 use lib.Seq.{getD-set-same, getD-set-other, ext-getD}
-use Rattle.round.specs.Lists.{tabulate, tabulateFrom}
+use Rattle.round.specs.Lists.{tabulate}
+use Rattle.round.proofs.Words.{length-tabulate, tabulate-at}
 use Rattle.choice.proofs.Counting.{sameOr}
 
 -- the places below p hold F, the others what they held
@@ -40,24 +41,7 @@ all-written l₀ l m F p k all len same =
     ext-getD 0 l m (k .sized ∙ sym len)
     (λ q b. k .below q (omega (arith, k .sized)) ∙ same q (omega (arith, k .sized)))
 
-length-from : (i n : ℕ) (F : ℕ → ℕ) → length (tabulateFrom i n F) ≡ n
-length-from i zero F = refl
-length-from i (suc n) F = rw (length-from (suc i) n F)
-
-pub length-tabulate : (n : ℕ) (F : ℕ → ℕ) → length (tabulate n F) ≡ n
-length-tabulate n F = length-from 0 n F
-
-from-at : (i n : ℕ) (F : ℕ → ℕ) (q : ℕ) → q < n → getD (tabulateFrom i n F) q 0 ≡ F (i + q)
-from-at i zero F q b = absurd (omega arith)
-from-at i (suc n) F zero b = let e : i + 0 ≡ i = omega arith in rw e
-from-at i (suc n) F (suc q) b =
-    let e : i + suc q ≡ suc i + q = omega arith in
-    rw e (from-at (suc i) n F q (omega arith))
-
-getD-tabulate : (n : ℕ) (F : ℕ → ℕ) (q : ℕ) → q < n → getD (tabulate n F) q 0 ≡ F q
-getD-tabulate n F q b = let e : 0 + q ≡ q = omega arith in rw e at (from-at 0 n F q b)
-
 pub tabulated : (l₀ l : List ℕ) (F : ℕ → ℕ) (p : ℕ) → Written l₀ l F p → length l₀ ≤ p → l ≡ tabulate (length l₀) F
 tabulated l₀ l F p k all =
-    all-written l₀ l (tabulate (length l₀) F) F p k all (length-tabulate (length l₀) F)
-    (λ q b. sym (getD-tabulate (length l₀) F q b))
+    all-written l₀ l (tabulate (length l₀) F) F p k all (length-tabulate 0 (length l₀) F)
+    (λ q b. sym (tabulate-at (length l₀) F 0 q b))

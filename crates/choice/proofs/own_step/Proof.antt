@@ -9,7 +9,7 @@ use native.Mathlib.Numerals.{add-one}
 use Rattle.round.specs.Lists.{tabulate}
 use Rattle.round.specs.Category.{codeOf}
 use Rattle.round.specs.Questions.{positionsIn, reservedIn}
-use Rattle.choice.proofs.Written.{length-tabulate}
+use Rattle.round.proofs.Words.{length-tabulate}
 use Rattle.choice.proofs.Steps.{sized, code-small, front-back, own-done}
 use borrow.Author.Needs.{needs}
 use Rattle.choice.proofs.own_step.Statement.{statement}
@@ -56,7 +56,7 @@ reserved-back c =
     ∙ c .before .before .before .reserved-of .ensures
 
 slice-aggregate-step : tie.Need-slice-aggregate-step
-slice-aggregate-step c = sym (ap length (reserved-back c) ∙ length-tabulate (c .before .before .before .before .before .before .before .before .before .before .before .before .args .types) _)
+slice-aggregate-step c = sym (ap length (reserved-back c) ∙ length-tabulate 0 (c .before .before .before .before .before .before .before .before .before .before .before .before .args .types) _)
 
 add-step : tie.Need-add-step
 add-step c = omega (arith, code-below (c .before .before .before .before), c .before .before .before .before .before .before .wide .ensures)
@@ -67,7 +67,7 @@ add-step-2 c = omega (arith, code-below (c .before .before .before .before), c .
 step-requires : tie.Need-step-requires
 step-requires c κs =
     let p = c .before .before .before .before .before .before .before .before .before .before .before .before .before .pre in
-    (omega (arith, p .0, ap length (reserved-back (c .before)) ∙ length-tabulate (c .before .before .before .before .before .before .before .before .before .before .before .before .before .args .types) _), p .2, p .3, p .4)
+    (omega (arith, p .0, ap length (reserved-back (c .before)) ∙ length-tabulate 0 (c .before .before .before .before .before .before .before .before .before .before .before .before .before .args .types) _), p .2, p .3, p .4)
 
 same-length : tie.Need-same-length
 same-length c = search needs

@@ -2,7 +2,8 @@
 use Prim.Native.Nat.{ℕ, suc, _+_, _≤_, _-_}
 use mathlib.Core.Path.{_≡_, refl, subst}
 use mathlib.Core.Bool.{Bool}
-use Rattle.choice.proofs.Counts.{count-more, bit-true, bit-false}
+use Rattle.choice.proofs.Counting.{bit-true, bit-false}
+use Rattle.choice.proofs.Counts.{count-more}
 use mathlib.Core.Logic.{⊎-elim}
 use lib.Dec.{eqb}
 use lib.ListN.{length, getD}
@@ -50,10 +51,10 @@ loop-again c =
     let byte : c .before .wide .result ≡ getD (here .placed .now) q 0 = c .before .wide .ensures .0 in
     ⊎-elim
     (λ w.
-    let more : n + 1 ≡ count (q + 1) X = count-more X q n 1 so-far (bit-true (eq-eqb (getD (here .placed .now) q 0) (suc (here .t)) (omega (arith, w .0 .taken)))) in
+    let more : n + 1 ≡ count (q + 1) X = count-more X q n 1 so-far (bit-true (X q) (eq-eqb (getD (here .placed .now) q 0) (suc (here .t)) (omega (arith, w .0 .taken)))) in
     (omega arith, refl, omega arith, omega arith))
     (λ w.
-    let more : n + 0 ≡ count (q + 1) X = count-more X q n 0 so-far (bit-false (ne-eqb (getD (here .placed .now) q 0) (suc (here .t)) (λ e. w .0 .left (omega arith)))) in
+    let more : n + 0 ≡ count (q + 1) X = count-more X q n 0 so-far (bit-false (X q) (ne-eqb (getD (here .placed .now) q 0) (suc (here .t)) (λ e. w .0 .left (omega arith)))) in
     (omega arith, refl, omega arith, omega arith))
     (c .if1 .came)
 
