@@ -3,51 +3,45 @@ use Prim.Native.Nat.{ℕ, _+_, _*_, _<_, _≤_}
 use mathlib.Core.Path.{_≡_, sym, ap, _∙_}
 use mathlib.Core.List.{List, _++_}
 use native.Mathlib.Omega.{arith}
-use lib.ListN.{length, take, drop, replicate, length-replicate}
+use lib.ListN.{length, take, drop, replicate}
 use lib.Seq.{length-take-le}
 use Rattle.round.specs.declared.head.Head.{Head as CodeHead}
 use Rattle.round.specs.declared.reader.Reading.{Reading}
 use Rattle.round.specs.declared.reader.Reading.the-variants.{Read}
 use Rattle.round.specs.declared.reader.Reading.the-variants.{Refused as ReadingRefused}
-use Rattle.round.specs.Records.{Head}
 use Rattle.round.specs.Outcome.{verdictOf, RoundRead}
 use Rattle.round.specs.Reading.{roundOf}
-use Rattle.round.proofs.Sound.{sound, length-candidates, length-institutes}
+use Rattle.choice.proofs.Steps.{sized}
 use Rattle.allotment.specs.declared.Answer.{Answer}
 use Rattle.allotment.specs.declared.Answer.the-variants.{Allotted, Refused}
-use Rattle.allotment.specs.Process.{candidateCount, instituteCount, offersMade}
+use Rattle.allotment.specs.Process.{offersMade}
 use Rattle.allotment.specs.Areas.{answerBytes, answerSize, workSize}
 use Rattle.allotment.specs.Promise.{Promise}
 use Rattle.allotment.specs.Held.{AtHand}
 use Rattle.allotment.specs.Handing.{handedUp}
+use Rattle.allotment.proofs.Turns.Known.{candidates-many, institutes-many, round-sound}
 use Rattle.allotment.proofs.Promise.{promise-refused, promise-answer-small, promise-work-small, promise-allotted}
 
 -- a round that was read
 module _ (file : List ℕ) (h : CodeHead) (candidates merits : List ℕ) (hand : AtHand file h candidates merits) where
-  candidates-many : candidateCount (roundOf file) ≡ h .candidates
-  candidates-many = length-candidates file ∙ sym (ap (λ (k : Head). k .candidates) (hand .head))
-
-  institutes-many : instituteCount (roundOf file) ≡ h .institutes
-  institutes-many = length-institutes file ∙ sym (ap (λ (k : Head). k .institutes) (hand .head))
-
   pub few : (h .candidates ≤ 512) × (h .institutes ≤ 32)
   few =
-      let s = sound file (hand .passing) in
-      omega (arith, candidates-many, institutes-many, s .candidates-most, s .institutes-most)
+      let s = round-sound hand in
+      omega (arith, candidates-many hand, institutes-many hand, s .candidates-most, s .institutes-most)
 
   -- a table of zeros has a place for each candidate
   pub places : (table : List ℕ) → table ≡ replicate 512 0 → h .candidates ≤ length table
-  places table e = omega (arith, few, ap length e, length-replicate {A = ℕ} 512 0)
+  places table e = omega (arith, few, sized 512 e)
 
   pub places-many : (table : List ℕ) → table ≡ replicate 512 0 → length (take (h .candidates) table) ≡ h .candidates
   places-many table e = length-take-le (h .candidates) table (places table e)
 
   -- the sizes that question 14 asks for
   pub answer-size : answerSize (roundOf file) ≡ 2 * h .candidates + 12 * h .institutes
-  answer-size = omega (arith, candidates-many, institutes-many)
+  answer-size = omega (arith, candidates-many hand, institutes-many hand)
 
   work-size : workSize (roundOf file) ≡ 8 * h .candidates
-  work-size = omega (arith, candidates-many)
+  work-size = omega (arith, candidates-many hand)
 
   module _ (answer work : List ℕ) where
     pub answer-small : length answer < 2 * h .candidates + 12 * h .institutes → Promise file answer work (Refused 14 0) answer work

@@ -8,7 +8,6 @@ use lib.Dec.{eqb}
 use lib.ListN.{length, getD}
 use borrow.Author.Tests.{eqb-true, eq-eqb}
 use Rattle.round.specs.declared.entry.Category.{Category}
-use Rattle.round.specs.declared.entry.Category.the-variants.{Open, SC, ST, OBC, EWS}
 use Rattle.round.specs.declared.entry.Entry.{Entry}
 use Rattle.round.specs.Category.{codeOf, categoryOf}
 use Rattle.round.specs.Round.{Candidate, Round}
@@ -17,6 +16,7 @@ use Rattle.round.specs.Sound.{SoundCandidate}
 use Rattle.round.proofs.Words.{and-fst, and-snd}
 use Rattle.round.proofs.Sound.{code-category}
 use Rattle.choice.proofs.Offers.{same-self, category-code, same-category}
+use Rattle.choice.proofs.Steps.{code-small}
 use Rattle.allotment.specs.Rows.{rowAt, rankIn, entryOf, sameEntry}
 use Rattle.allotment.proofs.Market.Rows.{Row, Ranked, Rows}
 
@@ -26,13 +26,6 @@ numberOf j c = 5 * j + codeOf c
 -- the entry of a number
 abbrev pub entryWith : ℕ → Entry
 entryWith e = entryOf (e / 5) (categoryOf (e % 5))
-
-pub code-small : (c : Category) → codeOf c ≤ 4
-code-small Open = omega arith
-code-small SC = omega arith
-code-small ST = omega arith
-code-small OBC = omega arith
-code-small EWS = omega arith
 
 pub number-institute : (j : ℕ) (c : Category) → numberOf j c / 5 ≡ j
 number-institute j c = omega (arith, code-small c)

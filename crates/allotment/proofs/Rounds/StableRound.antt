@@ -14,6 +14,7 @@ use Rattle.round.specs.Round.{Round}
 use Rattle.round.specs.Sound.{Sound}
 use Rattle.round.proofs.Words.{and-fst, and-snd, and-no, or-cases}
 use Rattle.choice.proofs.Counting.{clash, or-right}
+use Rattle.choice.proofs.Steps.{code-small}
 use Rattle.allotment.specs.Rows.{rowAt, rankIn, entryOf}
 use Rattle.allotment.specs.Offers.{OfferSet, placeOn, stepsOn, stepFor}
 use Rattle.allotment.specs.Process.{noSeat, candidateCount, instituteCount, madeTo, tried, seats}
@@ -23,7 +24,7 @@ use Rattle.allotment.proofs.Market.Tests.{some-below}
 use Rattle.allotment.proofs.Market.Laws.{Offers}
 use Rattle.allotment.proofs.Market.Reached.{reached-fits}
 use Rattle.allotment.proofs.Market.Stable.{tried-all}
-use Rattle.allotment.proofs.Rounds.Numbered.{numberOf, code-small, number-institute, number-category, rowBy, rowsOf, row-length, rows-rank}
+use Rattle.allotment.proofs.Rounds.Numbered.{numberOf, number-institute, number-category, rowBy, rowsOf, row-length, rows-rank}
 use Rattle.allotment.proofs.Rounds.Institutes.{round-market}
 use Rattle.allotment.proofs.Rounds.Agreed.{taken-by-steps, same-steps-on}
 use Rattle.allotment.proofs.Rounds.Running.{held, made-to, held-at, Running, one-entry-held, one-at, taken-held, held-made}

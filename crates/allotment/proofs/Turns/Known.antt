@@ -3,7 +3,7 @@ use Prim.Native.Nat.{ℕ, zero, suc, _-_, _≤_, _<_}
 use mathlib.Core.Path.{_≡_, refl, sym, _∙_, ap}
 use mathlib.Core.List.{List, [], _∷_, _++_}
 use native.Mathlib.Omega.{arith}
-use lib.ListN.{length, drop, replicate, length-replicate}
+use lib.ListN.{length, drop, replicate}
 use Rattle.round.specs.declared.entry.Entry.{Entry}
 use Rattle.round.specs.declared.head.Head.{Head as CodeHead}
 use Rattle.round.specs.Records.{Head, headOf}
@@ -58,7 +58,7 @@ module _ {file : List ℕ} {h : CodeHead} {candidates merits : List ℕ} (at : A
   pub candidates-many : candidateCount (roundOf file) ≡ h .candidates
   candidates-many = length-candidates file ∙ sym candidates-are
 
-  institutes-many : instituteCount (roundOf file) ≡ h .institutes
+  pub institutes-many : instituteCount (roundOf file) ≡ h .institutes
   institutes-many = length-institutes file ∙ sym institutes-are
 
   pub round-sound : Sound (headOf file .types) (roundOf file)
@@ -95,10 +95,6 @@ module _ {file : List ℕ} {h : CodeHead} {candidates merits : List ℕ} (at : A
             institutes-many,
             round-sound .candidate i (omega (arith, candidates-many)) .entry-to k short,
           )
-
--- a table of zeros has its length
-pub sized : (n : ℕ) {table : List ℕ} → table ≡ replicate n 0 → length table ≡ n
-sized n e = ap length e ∙ length-replicate n 0
 
 drop-all : (n : ℕ) (l : List ℕ) → length l ≡ n → drop n l ≡ []
 drop-all zero [] e = refl

@@ -7,9 +7,9 @@ use lib.ListN.{take}
 use lib.Seq.{length-take-le}
 use denote.Ref.{now}
 use Rattle.round.specs.declared.head.Head.{Head}
-use Rattle.choice.proofs.Steps.{take-replicate}
+use Rattle.choice.proofs.Steps.{take-replicate, sized}
 use Rattle.allotment.specs.Held.{AtHand}
-use Rattle.allotment.proofs.Turns.Known.{round-sound, candidates-many, sized, cleared}
+use Rattle.allotment.proofs.Turns.Known.{round-sound, candidates-many, cleared}
 use borrow.Author.Needs.{needs}
 use Rattle.allotment.proofs.process.run_offers.Statement.{statement}
 use Rattle.allotment.proofs.process.run_offers.Tie as tie

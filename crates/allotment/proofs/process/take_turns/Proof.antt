@@ -6,9 +6,10 @@ use lib.ListN.{replicate}
 use denote.Ref.{now}
 use Rattle.round.specs.Reading.{roundOf}
 use Rattle.round.proofs.Sound.{length-candidates}
+use Rattle.choice.proofs.Steps.{sized}
 use Rattle.allotment.specs.Process.{entryTotal}
 use Rattle.allotment.specs.Turns.{NobodyBelow}
-use Rattle.allotment.proofs.Turns.Known.{round-sound, candidates-many, sized}
+use Rattle.allotment.proofs.Turns.Known.{round-sound, candidates-many}
 use Rattle.allotment.proofs.Turns.Choosing.{round-coded, round-parted}
 use Rattle.allotment.proofs.Turns.Going.{Going, going-start, going-more, going-few, going-next, going-low, going-done, going-tried, going-holders, going-steps, entries-few}
 use Rattle.allotment.proofs.process.take_turns.Statement.{statement}

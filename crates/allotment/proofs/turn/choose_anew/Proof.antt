@@ -8,9 +8,9 @@ use lib.ListN.{length, take, drop}
 use lib.Seq.{length-take-le, length-front}
 use denote.Ref.{now}
 use Rattle.round.specs.Reading.{roundOf}
-use Rattle.choice.proofs.Steps.{front-back}
+use Rattle.choice.proofs.Steps.{front-back, sized}
 use Rattle.allotment.specs.Turns.{rivalOf}
-use Rattle.allotment.proofs.Turns.Known.{candidates-are, candidates-many, knows-merit, knows-institute, institute-sound, institute-few, merit-few, sized}
+use Rattle.allotment.proofs.Turns.Known.{candidates-are, candidates-many, knows-merit, knows-institute, institute-sound, institute-few, merit-few}
 use Rattle.allotment.proofs.Turns.Choosing.{listed-most, listed-apart, all-chosen}
 use borrow.Author.Needs.{needs}
 use Rattle.allotment.proofs.turn.choose_anew.Statement.{statement}

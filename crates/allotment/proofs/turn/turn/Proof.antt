@@ -3,7 +3,7 @@ use mathlib.Core.Path.{refl}
 use native.Mathlib.Omega.{arith}
 use denote.Ref.{now}
 use Rattle.round.specs.Reading.{roundOf}
-use Rattle.allotment.proofs.Rounds.Numbered.{code-small}
+use Rattle.choice.proofs.Steps.{code-small}
 use Rattle.allotment.proofs.Turns.Known.{knows-candidate, row-few, entry-least, entry-inside}
 use Rattle.allotment.proofs.Turns.Choosing.{turn-taken}
 use borrow.Author.Needs.{needs}
