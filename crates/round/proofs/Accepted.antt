@@ -20,13 +20,13 @@ module _ {file : List ℕ} {r : Reading} {c₀ c m₀ m : List ℕ} (R : RoundRe
   pub accepted : verdict file ≡ passes
   accepted = sym (R .answer) ∙ ap verdictOf e
 
-  pub same-candidates : h .candidates ≡ headOf file .candidates
+  same-candidates : h .candidates ≡ headOf file .candidates
   same-candidates = ap (λ (x : Head). x .candidates) (R .head h e)
 
-  pub same-institutes : h .institutes ≡ headOf file .institutes
+  same-institutes : h .institutes ≡ headOf file .institutes
   same-institutes = ap (λ (x : Head). x .institutes) (R .head h e)
 
-  pub same-types : h .types ≡ headOf file .types
+  same-types : h .types ≡ headOf file .types
   same-types = ap (λ (x : Head). x .types) (R .head h e)
 
   -- the round has the numbers of the head, and is sound

@@ -15,7 +15,7 @@ use Rattle.round.specs.Read.{InRange}
 use Rattle.round.proofs.Words.{and-fst, and-snd, and-no, or-cases, all-at, apart-at}
 use Rattle.round.proofs.Passed.{yes}
 
-pub within-from : (low high x : ℕ) → within low high x ≡ true → low ≤ x
+within-from : (low high x : ℕ) → within low high x ≡ true → low ≤ x
 within-from low high x e = leb-true low x (and-fst _ _ e)
 
 pub within-to : (low high x : ℕ) → within low high x ≡ true → x ≤ high

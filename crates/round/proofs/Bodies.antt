@@ -71,7 +71,7 @@ module _ (file : List ℕ) (i : ℕ) {body : List ℕ} (r : CandidateRead file i
   unfolding candidateIn
   row-length = sym (ap (λ (c : Candidate). length (c .row)) (r .candidate-of)) ∙ length-tabulate 0 (entryCount body) (entryIn body)
 
-  pub row-entry : (k : ℕ) → k < entryCount body → entryAt (candidateOf file i) k ≡ entryIn body k
+  row-entry : (k : ℕ) → k < entryCount body → entryAt (candidateOf file i) k ≡ entryIn body k
   unfolding candidateIn
   row-entry k l = sym (ap (λ (c : Candidate). entryAt c k) (r .candidate-of)) ∙ tabulate-at (entryCount body) (entryIn body) noEntry k l
 

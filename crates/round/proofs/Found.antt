@@ -17,18 +17,15 @@ use Rattle.round.proofs.Answers.{body-whole}
 
 -- a lawful part is no refusal
 pub no-refusal : {A : Type 0} {end n o : ℕ} → Lawful end ≡ Refused n o → A
-no-refusal {A} {end} {n} {o} e = let z : _≡_ {A = ℕ} 0 1 = cc in absurd (false-eq z)
-  where
-    false-eq : _≡_ {A = ℕ} 0 1 → ⊥
-    false-eq z = omega arith
+no-refusal {A} {end} {n} {o} e = let z : _≡_ {A = ℕ} 0 1 = cc in absurd (omega arith)
 
 same-end : {a b : ℕ} → Lawful a ≡ Lawful b → a ≡ b
 same-end {a} {b} e = cc
 
-pub part-zero : (n start end : ℕ) → n ≡ 0 → partBy n start end ≡ Lawful end
+part-zero : (n start end : ℕ) → n ≡ 0 → partBy n start end ≡ Lawful end
 part-zero n start end e = rw (eq-eqb n 0 e)
 
-pub part-some : (n start end : ℕ) → (n ≡ 0 → ⊥) → partBy n start end ≡ Refused n start
+part-some : (n start end : ℕ) → (n ≡ 0 → ⊥) → partBy n start end ≡ Refused n start
 part-some n start end e = rw (ne-eqb n 0 e)
 
 -- by the answer, the first question answered no
@@ -36,7 +33,7 @@ pub part-lawful : (n start end e : ℕ) → partBy n start end ≡ Lawful e → 
 part-lawful zero start end e p = (refl, same-end p)
 part-lawful (suc n) start end e p = no-refusal (sym p ∙ part-some (suc n) start end (λ z. omega arith))
 
-pub part-refused : (n start end m o : ℕ) → partBy n start end ≡ Refused m o → n ≡ 0 → ⊥
+part-refused : (n start end m o : ℕ) → partBy n start end ≡ Refused m o → n ≡ 0 → ⊥
 part-refused n start end m o p e = no-refusal (sym (part-zero n start end e) ∙ p)
 
 -- a question answered no stays the first when more are put
@@ -95,7 +92,7 @@ module _ (file : List ℕ) (h : Head) (kind start : ℕ) where
 
   module _ {end : ℕ} (f : Found end) where
     -- the part of the file behind the lead bytes is the body
-    pub the-body : take (end - (start + 4)) (drop (start + 4) file) ≡ bodyAt file start
+    the-body : take (end - (start + 4)) (drop (start + 4) file) ≡ bodyAt file start
     the-body =
         let e : end - (start + 4) ≡ lengthAt file start = omega (arith, f .ends) in
         ap (λ (n : ℕ). take n (drop (start + 4) file)) e

@@ -15,11 +15,8 @@ use Rattle.round.specs.Questions.{firstNo, questionsAt}
 use Rattle.round.specs.Refusal.{Verdict, passes, refused, ending, verdictFrom, verdict}
 
 -- a refusal is no pass
-pub refusal : {A : Type 0} {n at : ℕ} → refused n at ≡ passes → A
-refusal {A} {n} {at} e = let z : _≡_ {A = ℕ} 0 1 = cc in absurd (false-eq z)
-  where
-    false-eq : _≡_ {A = ℕ} 0 1 → ⊥
-    false-eq z = omega arith
+refusal : {A : Type 0} {n at : ℕ} → refused n at ≡ passes → A
+refusal {A} {n} {at} e = let z : _≡_ {A = ℕ} 0 1 = cc in absurd (omega arith)
 
 pub judged-yes : (no at : ℕ) (rest : Verdict) → cond (eqb no 0) rest (refused no at) ≡ passes → (no ≡ 0) × (rest ≡ passes)
 judged-yes zero at rest e = (refl, e)

@@ -24,10 +24,7 @@ use Rattle.round.proofs.Found.{part-lawful}
 
 -- a refusal has no round
 not-read : {A : Type 0} {r : Reading} {n o : ℕ} (k : CodeHead) → r ≡ Refused n o → r ≡ Read k → A
-not-read {A} {r} {n} {o} k e d = let z : _≡_ {A = ℕ} 0 1 = cc in absurd (false-eq z)
-  where
-    false-eq : _≡_ {A = ℕ} 0 1 → ⊥
-    false-eq z = omega arith
+not-read {A} {r} {n} {o} k e d = let z : _≡_ {A = ℕ} 0 1 = cc in absurd (omega arith)
 
 module _ (file : List ℕ) (k : CodeHead) (from : ℕ) where
   h : Head
@@ -157,7 +154,7 @@ module _ (file : List ℕ) {r₀ : Part} (h₀ : Head) (got : r₀ ≡ partBy (f
     lead : answers.LeadYes file (headOf file) 1 0
     lead = answers.lead-yes file (headOf file) 1 0 (head-zero .0)
 
-    pub head-length : lengthAt file 0 ≡ 8
+    head-length : lengthAt file 0 ≡ 8
     head-length = answers.length-head (headOf file) (lengthAt file 0) (lead .allowed)
 
     pub head-end : end ≡ 12
@@ -166,7 +163,7 @@ module _ (file : List ℕ) {r₀ : Part} (h₀ : Head) (got : r₀ ≡ partBy (f
     pub head-inside : end ≤ length file
     head-inside = omega (arith, head-zero .1, lead .body-there)
 
-    pub head-body : take (end - 4) (drop 4 file) ≡ bodyAt file 0
+    head-body : take (end - 4) (drop 4 file) ≡ bodyAt file 0
     head-body =
         let e : end - 4 ≡ lengthAt file 0 = omega (arith, head-end, head-length) in
         ap (λ (n : ℕ). take n (drop 4 file)) e

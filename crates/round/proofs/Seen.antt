@@ -54,7 +54,7 @@ seen-none f table e = record {
 
 module _ (f : ℕ → ℕ) (i : ℕ) (table : List ℕ) (s : Seen f i table) (small : f i < 513) where
   -- the next number was seen
-  pub seen-again : (n : ℕ) → i < n → getD table (f i) 0 ≡ 1 → apart n (same f) ≡ false
+  seen-again : (n : ℕ) → i < n → getD table (f i) 0 ≡ 1 → apart n (same f) ≡ false
   seen-again n l e =
       all-no n (λ j. all j (λ k. not (same f k j))) i l
       (all-not i (λ k. same f k i) ∙ ap not (bit-one (any i (λ k. same f k i)) (sym (s .told (f i) small) ∙ e)))
@@ -73,7 +73,7 @@ module _ (f : ℕ → ℕ) (i : ℕ) (table : List ℕ) (s : Seen f i table) (sm
       go false q = getD-set-other table (f i) x 1 0 (λ e. eqb-false (f i) x q (sym e)) ∙ s .told x l
 
   -- it was not, and is put down
-  pub seen-more : (getD table (f i) 0 ≡ 1 → ⊥) → Seen f (i + 1) (set table (f i) 1)
+  seen-more : (getD table (f i) 0 ≡ 1 → ⊥) → Seen f (i + 1) (set table (f i) 1)
   seen-more n =
       rw add-one (record {
         room = length-set table (f i) 1 ∙ s .room;

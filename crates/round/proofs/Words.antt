@@ -14,11 +14,8 @@ use lib.ListN.{length, getD}
 use Rattle.round.specs.Lists.{tabulate, tabulateFrom, sum, sumOf, all, apart}
 
 -- true is not false
-pub clash : {A : Type 0} → true ≡ false → A
-clash {A} e = let z : _≡_ {A = ℕ} 0 1 = cc in absurd (false-eq z)
-  where
-    false-eq : _≡_ {A = ℕ} 0 1 → ⊥
-    false-eq z = omega arith
+clash : {A : Type 0} → true ≡ false → A
+clash {A} e = let z : _≡_ {A = ℕ} 0 1 = cc in absurd (omega arith)
 
 pub and-fst : (a b : Bool) → a && b ≡ true → a ≡ true
 and-fst true b e = refl
@@ -61,7 +58,7 @@ pub length-tabulate : {A : Type 0} (s n : ℕ) (f : ℕ → A) → length (tabul
 length-tabulate s zero f = refl
 length-tabulate s (suc n) f = ap suc (length-tabulate (suc s) n f)
 
-pub getD-tabulate : {A : Type 0} (s n : ℕ) (f : ℕ → A) (d : A) (i : ℕ) → i < n → getD (tabulateFrom s n f) i d ≡ f (s + i)
+getD-tabulate : {A : Type 0} (s n : ℕ) (f : ℕ → A) (d : A) (i : ℕ) → i < n → getD (tabulateFrom s n f) i d ≡ f (s + i)
 getD-tabulate s zero f d i l = absurd (omega arith)
 getD-tabulate s (suc n) f d zero l = ap f (sym (add-zero s))
 getD-tabulate s (suc n) f d (suc i) l =
