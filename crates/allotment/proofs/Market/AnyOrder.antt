@@ -2,7 +2,8 @@
 use mathlib.Core.Path.{_≡_, sym, _∙_, ap, fun-ext}
 use Prim.Native.Nat.{ℕ, suc}
 use native.Mathlib.Omega.{arith}
-use Rattle.allotment.proofs.Market.Sums.{sum, sum-same, sum-zero}
+use Rattle.round.specs.Lists.{sumOf}
+use Rattle.choice.proofs.Counting.{sumOf-ext, sumOf-zero}
 use Rattle.allotment.proofs.Market.Laws.{Offers, Market}
 use Rattle.allotment.proofs.Market.Rows.{Rows, State, offers}
 use Rattle.allotment.proofs.Market.Reached.{Reached, start, step, Final, turned-sum}
@@ -12,9 +13,9 @@ unfoldable pub turns : {n : ℕ} {Ch : Offers → Offers} {rows : Rows} {t : Sta
 turns (start z) = 0
 turns (step i r l f h s) = suc (turns r)
 
-pub turns-sum : {n : ℕ} {Ch : Offers → Offers} {rows : Rows} {t : State} (r : Reached n Ch rows t) → turns r ≡ sum n t
+pub turns-sum : {n : ℕ} {Ch : Offers → Offers} {rows : Rows} {t : State} (r : Reached n Ch rows t) → turns r ≡ sumOf n t
 unfolding turns
-turns-sum {n} {t = t} (start z) = sym (sum-zero n t (λ i l. z i))
+turns-sum {n} {t = t} (start z) = sym (sumOf-zero n t (λ i l. z i))
 turns-sum {n} (step i r l f h s) = ap suc (turns-sum r) ∙ sym (turned-sum n l s)
 
 module _ {n K : ℕ} {Ch : Offers → Offers} (M : Market n K Ch) {rows : Rows} {t u : State} where
@@ -25,4 +26,4 @@ module _ {n K : ℕ} {Ch : Offers → Offers} (M : Market n K Ch) {rows : Rows} 
   same-seats a b i e = ap (λ s. Ch (offers rows s) i e) (fun-ext (any-order a b))
 
   pub same-turns : (a : Final n Ch rows t) (b : Final n Ch rows u) → turns (a .reached) ≡ turns (b .reached)
-  same-turns a b = turns-sum (a .reached) ∙ sum-same n t u (λ i l. any-order a b i) ∙ sym (turns-sum (b .reached))
+  same-turns a b = turns-sum (a .reached) ∙ sumOf-ext n t u (λ i l. any-order a b i) ∙ sym (turns-sum (b .reached))

@@ -4,7 +4,8 @@ use mathlib.Core.Logic.{_⊎_, inl, inr}
 use Prim.Native.Nat.{ℕ, zero, suc, _+_, _≤_, _<_}
 use native.Mathlib.Omega.{arith}
 use native.Mathlib.Decide.{decLt, ℕ-discrete}
-use Rattle.allotment.proofs.Market.Sums.{sum, sum-le}
+use Rattle.round.specs.Lists.{sumOf}
+use Rattle.choice.proofs.Counting.{sumOf-le}
 use Rattle.allotment.proofs.Market.Laws.{Offers, Market, Held, Unheld, held-or-not}
 use Rattle.allotment.proofs.Market.Rows.{Rows, State, offers}
 use Rattle.allotment.proofs.Market.Reached.{Served, Reached, start, step, Final, turn, turn-turned, turned-sum, reached-fits}
@@ -45,12 +46,12 @@ module _ {n K : ℕ} {Ch : Offers → Offers} (M : Market n K Ch) (rows : Rows) 
       go (inr s) = (t, record { reached = r; closed = record { fits = reached-fits r; served = s } })
 
   -- k bounds the turns that are left
-  run : (k : ℕ) (t : State) → Reached n Ch rows t → sum n (λ i. rows i .len) ≤ sum n t + k → (u : State) × Final n Ch rows u
+  run : (k : ℕ) (t : State) → Reached n Ch rows t → sumOf n (λ i. rows i .len) ≤ sumOf n t + k → (u : State) × Final n Ch rows u
   run zero t r b =
       turn-or-end t r
       (λ i x.
-      let full : sum n (turn i t) ≤ sum n (λ i. rows i .len) =
-      sum-le n (turn i t) (λ i. rows i .len) (λ j l. reached-fits (turn-reached t r i x) j)
+      let full : sumOf n (turn i t) ≤ sumOf n (λ i. rows i .len) =
+      sumOf-le n (turn i t) (λ i. rows i .len) (λ j l. reached-fits (turn-reached t r i x) j)
       in
       absurd (omega (arith, turned-sum n (x .0) (turn-turned i t))))
   run (suc k) t r b =
@@ -58,4 +59,4 @@ module _ {n K : ℕ} {Ch : Offers → Offers} (M : Market n K Ch) (rows : Rows) 
       (λ i x. run k (turn i t) (turn-reached t r i x) (omega (arith, turned-sum n (x .0) (turn-turned i t))))
 
   pub final : (u : State) × Final n Ch rows u
-  final = run (sum n (λ i. rows i .len)) (λ i. 0) (start (λ i. refl)) (omega arith)
+  final = run (sumOf n (λ i. rows i .len)) (λ i. 0) (start (λ i. refl)) (omega arith)

@@ -6,7 +6,8 @@ use Prim.Native.Nat.{ℕ, suc, _≤_, _<_}
 use native.Mathlib.Omega.{arith}
 use lib.ListN.{length, getD, set}
 use lib.Seq.{getD-set-same, getD-set-other}
-use Rattle.allotment.proofs.Market.Sums.{sum, sum-suc}
+use Rattle.round.specs.Lists.{sumOf}
+use Rattle.choice.proofs.Counting.{sumOf-at}
 use Rattle.allotment.proofs.Market.Laws.{Offers, Held, Unheld}
 use Rattle.allotment.proofs.Market.Update.{put, put-here, put-elsewhere, split-at}
 use Rattle.allotment.proofs.Market.Rows.{Rows, State, offers}
@@ -48,8 +49,8 @@ set-turned l i v h p = record { here = getD-set-same l i v 0 h ∙ p; elsewhere 
 pub turned-le : {i : ℕ} {t u : State} → Turned i t u → (j : ℕ) → t j ≤ u j
 turned-le {i} {t} {u} s = split-at (λ j. t j ≤ u j) i (omega arith) (λ j d. omega (arith, s .elsewhere j d))
 
-pub turned-sum : {i : ℕ} {t u : State} (n : ℕ) → i < n → Turned i t u → sum n u ≡ suc (sum n t)
-turned-sum {i} {t} {u} n l s = sum-suc n t u i l (s .here) (s .elsewhere)
+pub turned-sum : {i : ℕ} {t u : State} (n : ℕ) → i < n → Turned i t u → sumOf n u ≡ suc (sumOf n t)
+turned-sum {i} {t} {u} n l s = omega (arith, sumOf-at n i 1 u t l (s .elsewhere) (omega (arith, s .here)))
 
 module _ {n : ℕ} {Ch : Offers → Offers} {rows : Rows} where
   pub reached-fits : {t : State} → Reached n Ch rows t → (j : ℕ) → t j ≤ rows j .len

@@ -4,8 +4,9 @@ use mathlib.Core.Bool.{true}
 use mathlib.Core.Logic.{_⊎_, inl, inr, _≢_}
 use Prim.Native.Nat.{ℕ, _≤_, _<_}
 use native.Mathlib.Omega.{arith}
+use Rattle.round.specs.Lists.{count}
 use Rattle.choice.proofs.Counting.{clash}
-use Rattle.allotment.proofs.Market.Sums.{count, sum-lt, count-none, count-one, count-some}
+use Rattle.allotment.proofs.Market.Sums.{sumOf-lt, count-none, count-one, count-some}
 use Rattle.allotment.proofs.Market.Laws.{Offers, Market, Held, Unheld, kept, held-or-not, total}
 use Rattle.allotment.proofs.Market.Update.{put, put-here, put-elsewhere, split-at}
 use Rattle.allotment.proofs.Market.Rows.{Ranked, Rows, Alike, State, offers, offered, tried, offers-le}
@@ -21,7 +22,7 @@ module _ {n K : ℕ} {Ch : Offers → Offers} (M : Market n K Ch) where
       → ((j : ℕ) → Held Ch O j → Held Ch P j) → (i : ℕ) → Unheld Ch O i → Held Ch P i → total n K (Ch O) < total n K (Ch P)
   unfolding total
   more-held O P one keep i f h =
-      sum-lt n (λ j. count K (Ch O j)) (λ j. count K (Ch P j)) (λ j l. low j l (held-or-not M O j)) i (M .bounded P i (h .0) (h .1) .0)
+      sumOf-lt n (λ j. count K (Ch O j)) (λ j. count K (Ch P j)) (λ j l. low j l (held-or-not M O j)) i (M .bounded P i (h .0) (h .1) .0)
       (omega (arith, count-none K (Ch O i) (λ e l. f e), some i h))
     where
       some : (j : ℕ) → Held Ch P j → 1 ≤ count K (Ch P j)

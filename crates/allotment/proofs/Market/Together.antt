@@ -3,9 +3,9 @@ use mathlib.Core.Path.{_≡_, sym, _∙_, ap}
 use mathlib.Core.Bool.{true}
 use Prim.Native.Nat.{ℕ, _<_}
 use native.Mathlib.Omega.{arith}
-use Rattle.round.specs.Lists.{bit}
-use Rattle.choice.proofs.Counting.{false-unless}
-use Rattle.allotment.proofs.Market.Sums.{sum, count, sum-le, sum-same}
+use Rattle.round.specs.Lists.{bit, count, sumOf}
+use Rattle.choice.proofs.Counting.{false-unless, sumOf-le, sumOf-ext}
+use Rattle.allotment.proofs.Market.Sums.{count-bits}
 use Rattle.allotment.proofs.Market.DoubleSums.{sum-swap, sum-only}
 use Rattle.allotment.proofs.Market.Laws.{Offers, Market, total}
 
@@ -16,18 +16,20 @@ together at C O i e = C (at e) O i e
 module _ {n K : ℕ} (S : ℕ) (at : ℕ → ℕ) (C : ℕ → Offers → Offers) (within : (e : ℕ) → e < K → at e < S)
     (each : (s : ℕ) → Market n K (C s)) (own : (s : ℕ) (O : Offers) (i e : ℕ) → C s O i e ≡ true → at e ≡ s) where
   -- what is chosen together is what is chosen by each
-  together-total : (O : Offers) → total n K (together at C O) ≡ sum S (λ s. total n K (C s O))
-  unfolding total count together
+  together-total : (O : Offers) → total n K (together at C O) ≡ sumOf S (λ s. total n K (C s O))
+  unfolding total together
   together-total O =
-      sum-same n (λ i. sum K (λ e. bit (C (at e) O i e))) (λ i. sum S (λ s. sum K (λ e. bit (C s O i e)))) (λ i l. row i)
-      ∙ sum-swap n S (λ i s. sum K (λ e. bit (C s O i e)))
+      sumOf-ext n (λ i. count K (λ e. C (at e) O i e)) (λ i. sumOf S (λ s. count K (C s O i))) (λ i l. row i)
+      ∙ sum-swap n S (λ i s. count K (C s O i))
     where
-      row : (i : ℕ) → sum K (λ e. bit (C (at e) O i e)) ≡ sum S (λ s. sum K (λ e. bit (C s O i e)))
+      row : (i : ℕ) → count K (λ e. C (at e) O i e) ≡ sumOf S (λ s. count K (C s O i))
       row i =
-          sum-same K (λ e. bit (C (at e) O i e)) (λ e. sum S (λ s. bit (C s O i e)))
+          count-bits K (λ e. C (at e) O i e)
+          ∙ sumOf-ext K (λ e. bit (C (at e) O i e)) (λ e. sumOf S (λ s. bit (C s O i e)))
           (λ e l. sym (sum-only S (λ s. bit (C s O i e)) (at e) (within e l)
           (λ s k d. ap bit (false-unless (C s O i e) (λ q. d (sym (own s O i e q)))))))
           ∙ sum-swap K S (λ e s. bit (C s O i e))
+          ∙ sumOf-ext S (λ s. sumOf K (λ e. bit (C s O i e))) (λ s. count K (C s O i)) (λ s l. sym (count-bits K (C s O i)))
 
   pub together-market : Market n K (together at C)
   unfolding together
@@ -41,6 +43,6 @@ module _ {n K : ℕ} (S : ℕ) (at : ℕ → ℕ) (C : ℕ → Offers → Offers
               arith,
               together-total O,
               together-total P,
-              sum-le S (λ s. total n K (C s O)) (λ s. total n K (C s P)) (λ s l. each s .grows O P h),
+              sumOf-le S (λ s. total n K (C s O)) (λ s. total n K (C s P)) (λ s l. each s .grows O P h),
             );
       }

@@ -12,13 +12,12 @@ use borrow.Author.Tests.{lt-ltb, le-ltb}
 use Rattle.round.specs.Round.{Round}
 use Rattle.round.specs.Places.{instituteAt}
 use Rattle.round.specs.Sound.{SoundInstitute, Sound}
-use Rattle.round.specs.Lists.{bit}
+use Rattle.round.specs.Lists.{bit, sumOf}
 use Rattle.round.proofs.Words.{length-tabulate}
-use Rattle.choice.proofs.Counting.{bit-max, greatest-below}
+use Rattle.choice.proofs.Counting.{bit-max, greatest-below, sumOf-le, sumOf-ext}
 use Rattle.allotment.specs.Offers.{candidateOn, placeOn}
 use Rattle.allotment.specs.Process.{Seat, noSeat, candidateCount, instituteCount, madeTo, chosen, seatBy, seatsAfter, tried, seats}
 use Rattle.allotment.specs.Areas.{seatIs, closingPlace}
-use Rattle.allotment.proofs.Market.Sums.{sum, sum-le, sum-same}
 use Rattle.allotment.proofs.Market.DoubleSums.{sum-through}
 use Rattle.allotment.proofs.Rounds.Places.{meritLength, candidate-at, candidate-below, place-of}
 use Rattle.allotment.proofs.Rounds.Agreed.{step-number}
@@ -26,8 +25,7 @@ use Rattle.allotment.proofs.Rounds.Running.{Running}
 use Rattle.allotment.proofs.Rounds.Process.{tried-running}
 use Rattle.allotment.proofs.Rounds.Seats.{Seated, Unseated, seat-of}
 
-sum-ones : (k : ℕ) → sum k (λ i. 1) ≡ k
-unfolding sum
+sum-ones : (k : ℕ) → sumOf k (λ i. 1) ≡ k
 sum-ones zero = refl
 sum-ones (suc k) = omega (arith, sum-ones k)
 
@@ -37,8 +35,8 @@ merit-short r j {n} sound =
     omega (
       arith,
       through,
-      sum-le n on (λ i. 1) (λ i l. bit-max (ltb (placeOn r j i) (meritLength r j))),
-      sum-same (meritLength r j) (λ p. on (candidateOn r j p)) (λ p. 1) there,
+      sumOf-le n on (λ i. 1) (λ i l. bit-max (ltb (placeOn r j i) (meritLength r j))),
+      sumOf-ext (meritLength r j) (λ p. on (candidateOn r j p)) (λ p. 1) there,
       sum-ones n,
       sum-ones (meritLength r j),
     )
@@ -49,7 +47,7 @@ merit-short r j {n} sound =
     there : (p : ℕ) → p < meritLength r j → on (candidateOn r j p) ≡ 1
     there p l = ap bit (lt-ltb _ (meritLength r j) (omega (arith, place-of r j sound p l)))
 
-    through : sum n on ≡ sum (meritLength r j) (λ p. on (candidateOn r j p))
+    through : sumOf n on ≡ sumOf (meritLength r j) (λ p. on (candidateOn r j p))
     through =
         sum-through (meritLength r j) n (candidateOn r j) (placeOn r j) (candidate-below r j sound) (place-of r j sound) on
         (λ i l. elim (decLt (placeOn r j i) (meritLength r j)) [

@@ -10,7 +10,7 @@ use lib.Dec.{ltb}
 use lib.ListN.{length, getD, length-map}
 use borrow.Author.Tests.{ltb-true, lt-ltb, le-ltb}
 use Rattle.round.specs.declared.entry.Category.{Category}
-use Rattle.round.specs.Lists as Lists
+use Rattle.round.specs.Lists.{sum, sumOf}
 use Rattle.round.specs.Round.{StepRule, Round}
 use Rattle.round.specs.Places.{candidateAt, instituteAt, noStep}
 use Rattle.round.specs.Sound.{SoundInstitute}
@@ -18,15 +18,15 @@ use Rattle.round.proofs.Words.{and-fst}
 use Rattle.choice.proofs.Taking.{takingForUse}
 use Rattle.choice.proofs.Offers.{offersIn}
 use Rattle.choice.proofs.Completion.{Lawful, completion, completion-within, completion-stays, completion-grows, totalTaken}
+use Rattle.choice.proofs.Counting.{sumOf-ext}
 use Rattle.allotment.specs.Offers.{OfferSet, candidateOn, placeOn}
-use Rattle.allotment.proofs.Market.Sums.{sum, sum-same}
 use Rattle.allotment.proofs.Market.DoubleSums.{sum-through}
 use Rattle.allotment.proofs.Rounds.Fives.{five, five-same, five-none, five-is}
 use Rattle.allotment.proofs.Rounds.Places.{meritLength, candidate-at, candidate-below, place-of}
 
 -- each step's reserved positions are within its own
 lawful-steps : (rules : List StepRule)
-    → ((s : ℕ) → s < length rules → Lists.sum (getD rules s noStep .reserved) ≤ getD rules s noStep .own) → Lawful rules
+    → ((s : ℕ) → s < length rules → sum (getD rules s noStep .reserved) ≤ getD rules s noStep .own) → Lawful rules
 lawful-steps [] h = tt
 lawful-steps (rule ∷ rules) h = (h 0 (omega arith), lawful-steps rules (λ s l. h (suc s) (omega arith)))
 
@@ -93,13 +93,13 @@ module _ (r : Round) (j : ℕ) where
         completed-on Y (candidateOn r j p) c (omega arith) ∙ ap (λ k. completedAt Y k c) q
 
     -- what is taken of candidates is what is taken of places
-    completed-total : (Y : OfferSet) → sum n (λ i. five (completed Y i)) ≡ totalTaken marksOn (instituteAt r j .steps) (atPlaces Y)
+    completed-total : (Y : OfferSet) → sumOf n (λ i. five (completed Y i)) ≡ totalTaken marksOn (instituteAt r j .steps) (atPlaces Y)
     unfolding totalTaken
     completed-total Y =
         sum-through (meritLength r j) n (candidateOn r j) (placeOn r j) (candidate-below r j sound) (place-of r j sound)
         (λ i. five (completed Y i))
         (λ i l. all i)
-        ∙ sum-same (meritLength r j) (λ p. five (completed Y (candidateOn r j p))) (λ p. five (completedAt Y p))
+        ∙ sumOf-ext (meritLength r j) (λ p. five (completed Y (candidateOn r j p))) (λ p. five (completedAt Y p))
         (λ p l. five-same (completed Y (candidateOn r j p)) (completedAt Y p) (λ c. completed-here Y p c l))
         ∙ five-is (meritLength r j) (completedAt Y)
         ∙ ap (λ k. offersIn k (completedAt Y)) (sym (length-map (instituteAt r j .merit) _))
@@ -112,7 +112,7 @@ module _ (r : Round) (j : ℕ) where
             ]
 
     pub completed-grows : (Y Y' : OfferSet) → ((i : ℕ) (c : Category) → Y i c ≡ true → Y' i c ≡ true)
-        → sum n (λ i. five (completed Y i)) ≤ sum n (λ i. five (completed Y' i))
+        → sumOf n (λ i. five (completed Y i)) ≤ sumOf n (λ i. five (completed Y' i))
     completed-grows Y Y' s =
         omega (
           arith,

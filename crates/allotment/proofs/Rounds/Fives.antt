@@ -1,5 +1,5 @@
 -- Sums over the five categories of each institute or of each place.
-use mathlib.Core.Path.{_≡_, refl, sym, _∙_, ap}
+use mathlib.Core.Path.{_≡_, refl, sym, ap}
 use mathlib.Core.Bool.{Bool, false}
 use Prim.Native.Nat.{ℕ, zero, suc, _+_, _*_}
 use native.Mathlib.Omega.{arith}
@@ -7,7 +7,6 @@ use Rattle.round.specs.declared.entry.Category.{Category}
 use Rattle.round.specs.declared.entry.Category.the-variants.{Open, SC, ST, OBC, EWS}
 use Rattle.round.specs.Lists.{bit, sumOf}
 use Rattle.choice.proofs.Offers.{offersIn, offers-by-place}
-use Rattle.allotment.proofs.Market.Sums.{sum}
 use Rattle.allotment.proofs.Rounds.Numbered.{numberOf}
 
 -- how many of a candidate's five possible offers to an institute are in the set
@@ -22,21 +21,14 @@ pub five-none : (Z : Category → Bool) → ((c : Category) → Z c ≡ false) �
 unfolding five
 five-none Z h = rw (h Open, h SC, h ST, h OBC, h EWS)
 
--- the sums of the market are those of the definitions
-pub sum-is : (k : ℕ) (f : ℕ → ℕ) → sum k f ≡ sumOf k f
-unfolding sum
-sum-is zero f = refl
-sum-is (suc k) f = omega (arith, sum-is k f)
-
 -- the offers of so many places
-pub five-is : (n : ℕ) (Y : ℕ → Category → Bool) → sum n (λ p. five (Y p)) ≡ offersIn n Y
+pub five-is : (n : ℕ) (Y : ℕ → Category → Bool) → sumOf n (λ p. five (Y p)) ≡ offersIn n Y
 unfolding five
-five-is n Y = sum-is n _ ∙ sym (offers-by-place n Y)
+five-is n Y = sym (offers-by-place n Y)
 
 -- the sum over all entries, institute by institute
 pub sum-fives : (m : ℕ) (f : ℕ → ℕ)
-    → sum (5 * m) f ≡ sum m (λ j. f (numberOf j Open) + f (numberOf j SC) + f (numberOf j ST) + f (numberOf j OBC) + f (numberOf j EWS))
-unfolding sum
+    → sumOf (5 * m) f ≡ sumOf m (λ j. f (numberOf j Open) + f (numberOf j SC) + f (numberOf j ST) + f (numberOf j OBC) + f (numberOf j EWS))
 sum-fives zero f = refl
 sum-fives (suc m) f =
     let e : 5 * suc m ≡ suc (suc (suc (suc (suc (5 * m))))) = omega arith in

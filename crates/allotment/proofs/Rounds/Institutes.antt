@@ -9,12 +9,13 @@ use Rattle.round.specs.declared.entry.Category.{Category}
 use Rattle.round.specs.Category.{categoryOf}
 use Rattle.round.specs.Round.{Round}
 use Rattle.round.specs.Sound.{Sound}
-use Rattle.round.specs.Lists.{bit}
+use Rattle.round.specs.Lists.{bit, count, sumOf}
 use Rattle.round.proofs.Words.{and-fst, and-snd}
 use Rattle.choice.proofs.Steps.{code-small}
+use Rattle.choice.proofs.Counting.{sumOf-le, sumOf-ext}
 use Rattle.allotment.specs.Offers.{OfferSet}
 use Rattle.allotment.specs.Process.{candidateCount, instituteCount}
-use Rattle.allotment.proofs.Market.Sums.{sum, count, sum-le, sum-same}
+use Rattle.allotment.proofs.Market.Sums.{count-bits}
 use Rattle.allotment.proofs.Market.DoubleSums.{sum-swap}
 use Rattle.allotment.proofs.Market.Laws.{Offers, Market, total}
 use Rattle.allotment.proofs.Rounds.Numbered.{numberOf, number-institute, number-category, number-back}
@@ -58,16 +59,17 @@ module _ (r : Round) where
   choice-back O i e t = and-snd (ltb e entryBound) _ (and-snd (ltb i (candidateCount r)) _ t)
 
   choice-total : (O : Offers)
-      → total (candidateCount r) entryBound (choiceOf O) ≡ sum (instituteCount r) (λ j. sum (candidateCount r) (λ i. five (completed r j (offersTo O j) i)))
-  unfolding total count five
+      → total (candidateCount r) entryBound (choiceOf O) ≡ sumOf (instituteCount r) (λ j. sumOf (candidateCount r) (λ i. five (completed r j (offersTo O j) i)))
+  unfolding total five
   choice-total O =
-      sum-same (candidateCount r) (λ i. sum entryBound (λ e. bit (choiceOf O i e))) (λ i. sum (instituteCount r) (λ j. five (completed r j (offersTo O j) i))) row
+      sumOf-ext (candidateCount r) (λ i. count entryBound (choiceOf O i)) (λ i. sumOf (instituteCount r) (λ j. five (completed r j (offersTo O j) i))) row
       ∙ sum-swap (candidateCount r) (instituteCount r) (λ i j. five (completed r j (offersTo O j) i))
     where
-      row : (i : ℕ) → i < candidateCount r → sum entryBound (λ e. bit (choiceOf O i e)) ≡ sum (instituteCount r) (λ j. five (completed r j (offersTo O j) i))
+      row : (i : ℕ) → i < candidateCount r → count entryBound (choiceOf O i) ≡ sumOf (instituteCount r) (λ j. five (completed r j (offersTo O j) i))
       row i l =
-          sum-fives (instituteCount r) (λ e. bit (choiceOf O i e))
-          ∙ sum-same (instituteCount r) (λ j. five (λ c. choiceOf O i (numberOf j c))) (λ j. five (completed r j (offersTo O j) i))
+          count-bits entryBound (choiceOf O i)
+          ∙ sum-fives (instituteCount r) (λ e. bit (choiceOf O i e))
+          ∙ sumOf-ext (instituteCount r) (λ j. five (λ c. choiceOf O i (numberOf j c))) (λ j. five (completed r j (offersTo O j) i))
           (λ j m. five-same (λ c. choiceOf O i (numberOf j c)) (completed r j (offersTo O j) i) (λ c. choice-at O i j c l m))
 
   module _ {types : ℕ} (sound : Sound types r) where
@@ -91,7 +93,7 @@ module _ (r : Round) where
             arith,
             choice-total O,
             choice-total P,
-            sum-le (instituteCount r) (λ j. sum (candidateCount r) (λ i. five (completed r j (offersTo O j) i))) (λ j. sum (candidateCount r) (λ i. five (completed r j (offersTo P j) i)))
+            sumOf-le (instituteCount r) (λ j. sumOf (candidateCount r) (λ i. five (completed r j (offersTo O j) i))) (λ j. sumOf (candidateCount r) (λ i. five (completed r j (offersTo P j) i)))
                 (λ j l. completed-grows r j (sound .institute j l) (offersTo O j) (offersTo P j) (λ i c. s i (numberOf j c))),
           );
     }

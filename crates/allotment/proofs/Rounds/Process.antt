@@ -8,15 +8,14 @@ use native.Mathlib.Omega.{arith}
 use native.Mathlib.Decide.{decLt}
 use lib.ListN.{length, getD, set, replicate, length-set, length-replicate}
 use borrow.Author.Tests.{ltb-true, ltb-false, lt-ltb, le-ltb, ne-eqb}
-use Rattle.round.specs.Lists.{first}
+use Rattle.round.specs.Lists.{first, sumOf}
 use Rattle.round.specs.Round.{Round}
 use Rattle.round.specs.Sound.{Sound}
 use Rattle.round.proofs.Words.{and-fst, and-snd, and-no}
-use Rattle.choice.proofs.Counting.{clash}
+use Rattle.choice.proofs.Counting.{clash, sumOf-le}
 use Rattle.choice.proofs.Tabulate.{getD-zeros}
 use Rattle.allotment.specs.Rows.{rowAt}
 use Rattle.allotment.specs.Process.{noSeat, isNone, candidateCount, seatsAfter, mayOffer, turn, turns, entryTotal, tried, offersMade}
-use Rattle.allotment.proofs.Market.Sums.{sum, sum-le}
 use Rattle.allotment.proofs.Market.Laws.{Unheld}
 use Rattle.allotment.proofs.Market.Reached.{start, step, Served, Closed, Final, set-turned, turned-sum, reached-fits}
 use Rattle.allotment.proofs.Market.AnyOrder as AnyOrder
@@ -51,7 +50,7 @@ turn-running {r} {state} {i} run may = record {
 }
 
 pub turn-sum : {r : Round} {state : List ℕ} {i : ℕ} → Running r state → MayTurn r state i
-    → sum (candidateCount r) (stateOf (advanced state i)) ≡ suc (sum (candidateCount r) (stateOf state))
+    → sumOf (candidateCount r) (stateOf (advanced state i)) ≡ suc (sumOf (candidateCount r) (stateOf state))
 turn-sum {r} {state} {i} run may =
     turned-sum (candidateCount r) (may .inside) (set-turned state i (suc (getD state i 0)) (omega (arith, run .each)) refl)
 
@@ -136,18 +135,18 @@ module _ {types : ℕ} {r : Round} (sound : Sound types r) where
   turns-running zero run = run
   turns-running (suc k) run = turns-running k (next-running run)
 
-  turns-final : (k : ℕ) {state : List ℕ} → Running r state → sum (candidateCount r) (λ i. rowsOf r i .len) ≤ sum (candidateCount r) (stateOf state) + k
+  turns-final : (k : ℕ) {state : List ℕ} → Running r state → sumOf (candidateCount r) (λ i. rowsOf r i .len) ≤ sumOf (candidateCount r) (stateOf state) + k
       → FinalIn r (turns r k state)
   unfolding turns
   turns-final zero {state} run few = go (turn-or-closed run)
     where
       go : Next r state → FinalIn r state
-      go (inl (i, may, e)) = absurd (omega (arith, turn-sum run may, sum-le (candidateCount r) (stateOf (advanced state i)) (λ i. rowsOf r i .len) (λ p l. reached-fits (turn-running run may .reached) p)))
+      go (inl (i, may, e)) = absurd (omega (arith, turn-sum run may, sumOf-le (candidateCount r) (stateOf (advanced state i)) (λ i. rowsOf r i .len) (λ p l. reached-fits (turn-running run may .reached) p)))
       go (inr (c, e)) = record { reached = run .reached; closed = c }
   turns-final (suc k) {state} run few = go (turn-or-closed run) (λ next. turns-final k {state = next})
     where
       go : Next r state
-          → ((next : List ℕ) → Running r next → sum (candidateCount r) (λ i. rowsOf r i .len) ≤ sum (candidateCount r) (stateOf next) + k
+          → ((next : List ℕ) → Running r next → sumOf (candidateCount r) (λ i. rowsOf r i .len) ≤ sumOf (candidateCount r) (stateOf next) + k
           → FinalIn r (turns r k next))
           → FinalIn r (turns r k (turn r state))
       go (inl (i, may, e)) ih =

@@ -11,18 +11,16 @@ use lib.Dec.{eqb, ltb}
 use lib.ListN.{length, getD, set, replicate, length-replicate, getD-replicate}
 use lib.Seq.{getD-set-other}
 use borrow.Author.Tests.{ltb-true, lt-ltb, le-ltb, eqb-true, eq-eqb, ne-eqb}
-use Rattle.round.specs.Lists as Lists
-use Rattle.round.specs.Lists.{first}
+use Rattle.round.specs.Lists.{first, sum, sumOf}
 use Rattle.round.specs.Round.{Round}
 use Rattle.round.specs.Sound.{Sound}
 use Rattle.round.proofs.Words.{and-fst, and-snd}
-use Rattle.choice.proofs.Counting.{clash, false-unless}
+use Rattle.choice.proofs.Counting.{clash, false-unless, sumOf-le}
 use Rattle.allotment.specs.Rows.{rowAt, rankIn, entryOf}
 use Rattle.allotment.specs.Process.{Seat, noSeat, isNone, candidateCount, madeTo, seatsAfter, mayOffer, turn, turns, entryTotal, tried, offersMade, seats}
 use Rattle.allotment.specs.Held.{HeldIn}
 use Rattle.allotment.specs.Turns.{mayTry, NobodyBelow, TurnTaken}
 use Rattle.allotment.specs.Tables.{KeptBelow}
-use Rattle.allotment.proofs.Market.Sums.{sum, sum-le}
 use Rattle.allotment.proofs.Rounds.Numbered.{rowsOf, row-length}
 use Rattle.allotment.proofs.Rounds.First.{first-within, first-passes, first-before, first-least, first-none}
 use Rattle.allotment.proofs.Rounds.Running.{stateOf, Running}
@@ -52,8 +50,7 @@ first-same n f g same = elim (decLt (first n g) n) [
       first-none n f (λ k m. same k m ∙ first-before n g k (omega arith)) ∙ (let e : n ≡ first n g = omega (arith, first-within n g) in e)
 ]
 
-sum-sixteens : (k : ℕ) → sum k (λ i. 16) ≡ 16 * k
-unfolding sum
+sum-sixteens : (k : ℕ) → sumOf k (λ i. 16) ≡ 16 * k
 sum-sixteens zero = refl
 sum-sixteens (suc k) = omega (arith, sum-sixteens k)
 
@@ -76,7 +73,7 @@ first-found r state holders l none e t = first-is l none (sym e ∙ t)
 pub record Going (r : Round) (state holders steps : List ℕ) (count : ℕ) : Type 0 where
   pub running : Running r state
   pub seated : HeldIn (seatsAfter r state) holders steps
-  pub counted : count ≡ Lists.sum state
+  pub counted : count ≡ sum state
   pub ends : turns r (entryTotal r - count) state ≡ tried r
 
 module _ {types : ℕ} {r : Round} (sound : Sound types r) where
@@ -99,10 +96,10 @@ module _ {types : ℕ} {r : Round} (sound : Sound types r) where
       let e : 0 ≡ getD (replicate (candidateCount r) zero) c 0 = sym (getD-replicate (candidateCount r) c zero zero hc) in
       record { institute = e k; step = e k }
 
-  sum-zeros : Lists.sum (replicate (candidateCount r) 0) ≡ 0
+  sum-zeros : sum (replicate (candidateCount r) 0) ≡ 0
   sum-zeros = go (candidateCount r)
     where
-      go : (n : ℕ) → Lists.sum (replicate n 0) ≡ 0
+      go : (n : ℕ) → sum (replicate n 0) ≡ 0
       go zero = refl
       go (suc n) = omega (arith, go n)
 
@@ -153,14 +150,14 @@ module _ {types : ℕ} {r : Round} (sound : Sound types r) where
     unfolding mayOffer
     going-more {i} e l = ltb-true _ _ (and-snd (isNone (getD (seatsAfter r state) i noSeat)) _ (may-next e l))
 
-    count-is : count ≡ sum (candidateCount r) (stateOf state)
+    count-is : count ≡ sumOf (candidateCount r) (stateOf state)
     count-is = g .counted ∙ state-sum (g .running)
 
     module _ {i : ℕ} (e : i ≡ first (candidateCount r) (mayTry r state holders)) (l : i < candidateCount r) where
       onward : Running r (advanced state i)
       onward = turn-running (g .running) (may-offer sound (g .running) i l (may-next e l))
 
-      sum-next : sum (candidateCount r) (stateOf (advanced state i)) ≡ suc count
+      sum-next : sumOf (candidateCount r) (stateOf (advanced state i)) ≡ suc count
       sum-next = turn-sum (g .running) (may-offer sound (g .running) i l (may-next e l)) ∙ ap suc (sym count-is)
 
       -- there are entries left
@@ -220,7 +217,7 @@ module _ {types : ℕ} {r : Round} (sound : Sound types r) where
         let still : turn r state ≡ state =
         ap (λ b. cond b (set state next (suc (getD state next 0))) state) (le-ltb next (candidateCount r) (omega (arith, next-is e))) in
         let last : state ≡ tried r = sym (turns-still r (entryTotal r - count) state still) ∙ g .ends in
-        (g .counted ∙ ap Lists.sum last, subst (λ (s : List ℕ). HeldIn (seatsAfter r s) holders steps) last (g .seated))
+        (g .counted ∙ ap sum last, subst (λ (s : List ℕ). HeldIn (seatsAfter r s) holders steps) last (g .seated))
 
     -- the tables have one number for each candidate
     pub going-tried : length state ≡ candidateCount r
@@ -240,5 +237,5 @@ module _ {types : ℕ} {r : Round} (sound : Sound types r) where
         entries r,
         sum-sixteens (candidateCount r),
         sound .candidates-most,
-        sum-le (candidateCount r) (λ p. rowsOf r p .len) (λ p. 16) (λ p m. omega (arith, row-length r p, sound .candidate p m .row-short)),
+        sumOf-le (candidateCount r) (λ p. rowsOf r p .len) (λ p. 16) (λ p m. omega (arith, row-length r p, sound .candidate p m .row-short)),
       )
