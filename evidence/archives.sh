@@ -14,7 +14,7 @@ made() {
         return 1
     fi
     mkdir -p target
-    echo "rt staticlib $1"
+    echo "rt staticlib $1" >&2
     if ! rt staticlib "$1" >"target/staticlib-$1.log" 2>&1; then
         echo "the archive of $1 could not be proved and made; see target/staticlib-$1.log"
         return 1

@@ -1,8 +1,10 @@
-//! Times the unit and the second program on the same files: `bench PAGE PLOT`, or `bench --stack` for the stack alone.
+//! Times the unit and the second program on the same files: `bench PAGE PLOT`, `bench --stack` for the stack alone, or
+//! `bench --file CLASS SEED`, which writes a file of a class to standard output.
 
 use evidence::files::Made;
 use evidence::measure::{classes, growth, lengthening, measure, Measured};
 use evidence::{plot, stack, table};
+use std::io::Write;
 use std::path::Path;
 use std::process::ExitCode;
 
@@ -25,6 +27,14 @@ fn measured(classes: Vec<(String, Made, Vec<u64>)>) -> Vec<Measured> {
         .collect()
 }
 
+/// The file of a timed class, by the class's name and a seed.
+fn file_of(name: &str, seed: &str) -> Option<Vec<u8>> {
+    let seed = seed.parse().ok()?;
+    let timed = [classes(), growth(), lengthening()].concat();
+    let (_, made, _) = timed.into_iter().find(|(known, _, _)| known == name)?;
+    Some(made.file(seed))
+}
+
 /// Writes a file, says where, and tells whether it could.
 fn put(path: &str, text: &str) -> bool {
     let written = std::fs::write(path, text);
@@ -43,6 +53,13 @@ fn main() -> ExitCode {
             print!("{}", stack::text());
             true
         }
+        ["--file", name, seed] => match file_of(name, seed) {
+            Some(file) => std::io::stdout().write_all(&file).is_ok(),
+            None => {
+                eprintln!("no such class or seed: {name} {seed}");
+                false
+            }
+        },
         [page, picture] => {
             let (classes, growth) = (measured(classes()), measured(growth()));
             let lengthening = measured(lengthening());
@@ -52,7 +69,7 @@ fn main() -> ExitCode {
             put(page, &text) && put(picture, &plot::plot(&growth))
         }
         _ => {
-            eprintln!("bench PAGE PLOT | bench --stack");
+            eprintln!("bench PAGE PLOT | bench --stack | bench --file CLASS SEED");
             return ExitCode::from(2);
         }
     };
