@@ -41,24 +41,21 @@ pub fn classes() -> Vec<(String, Made, Vec<u64>)> {
     ]
 }
 
+/// Classes under their own names, with three files each.
+fn series(classes: [Made; 4]) -> Vec<(String, Made, Vec<u64>)> {
+    classes
+        .map(|made| (made.name(), made, vec![1, 2, 3]))
+        .into()
+}
+
 /// The contested shape at growing numbers of candidates.
 pub fn growth() -> Vec<(String, Made, Vec<u64>)> {
-    [64, 128, 256, 512]
-        .map(|n| {
-            let made = Made::Contested(n);
-            (made.name(), made, vec![1, 2, 3])
-        })
-        .into()
+    series([64, 128, 256, 512].map(Made::Contested))
 }
 
 /// The contested shape with rows of growing length.
 pub fn lengthening() -> Vec<(String, Made, Vec<u64>)> {
-    [2, 4, 8, 16]
-        .map(|entries| {
-            let made = Made::Rows(entries);
-            (made.name(), made, vec![1, 2, 3])
-        })
-        .into()
+    series([2, 4, 8, 16].map(Made::Rows))
 }
 
 /// The time given to the files of a class together, for each of the two.
