@@ -14,12 +14,12 @@ use Rattle.round.specs.Reading.{roundOf}
 use Rattle.choice.proofs.Steps.{sized}
 use Rattle.allotment.specs.declared.Answer.{Answer}
 use Rattle.allotment.specs.declared.Answer.the-variants.{Allotted, Refused}
-use Rattle.allotment.specs.Process.{offersMade}
+use Rattle.offers.specs.Process.{offersMade}
 use Rattle.allotment.specs.Areas.{answerBytes, answerSize, workSize}
 use Rattle.allotment.specs.Promise.{Promise}
-use Rattle.allotment.specs.Held.{AtHand}
+use Rattle.offers.specs.Held.{AtHand}
 use Rattle.allotment.specs.Handing.{handedUp}
-use Rattle.allotment.proofs.Turns.Known.{candidates-many, institutes-many, round-sound}
+use Rattle.offers.proofs.Turns.Known.{candidates-many, institutes-many, round-sound}
 use Rattle.allotment.proofs.Promise.{promise-refused, promise-answer-small, promise-work-small, promise-allotted}
 
 -- a round that was read

@@ -8,12 +8,12 @@ use Rattle.round.specs.Refusal.{verdict, passes}
 use Rattle.round.specs.Reading.{roundOf}
 use Rattle.allotment.specs.declared.Answer.{Answer}
 use Rattle.allotment.specs.declared.Answer.the-variants.{Allotted, Refused}
-use Rattle.allotment.specs.Process.{offersMade}
+use Rattle.offers.specs.Process.{offersMade}
 use Rattle.allotment.specs.Areas.{answerBytes, answerSize, workSize}
 use Rattle.allotment.specs.Outcome.{outcomeOf, outcome, answerAfter, workAfter}
 use Rattle.allotment.specs.Promise.{Promise}
-use Rattle.allotment.proofs.Rounds.StableRound.{round-stable}
-use Rattle.allotment.proofs.Rounds.TruthfulRound.{round-truthful}
+use Rattle.offers.proofs.Rounds.StableRound.{round-stable}
+use Rattle.offers.proofs.Rounds.TruthfulRound.{round-truthful}
 use Rattle.allotment.proofs.Files.Promised.{StableRounds, TruthfulRounds, promised}
 use Rattle.allotment.proofs.Files.Returns as Returns
 

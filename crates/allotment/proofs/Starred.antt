@@ -11,9 +11,9 @@ use Rattle.round.specs.Reading.{stepIn, dereserved, stepsIn, entryIn, candidate
 use Rattle.choice.specs.Use.{holds, oneLess, greatest, useOf}
 use Rattle.choice.specs.Step.{raises, takenBefore, takenForUse, remaining, takenByMerit, taken}
 use Rattle.choice.specs.Choice.{considers, positionsAt, takenAt, vacantAt, advance, advanceAll, nothingDone, choose}
-use Rattle.allotment.specs.Rows.{rankIn}
-use Rattle.allotment.specs.Offers.{placeOn, stepsOn}
-use Rattle.allotment.specs.Process.{madeTo, chosen, seatBy, seatsAfter, mayOffer, turn, turns, tried, offersMade, seats}
+use Rattle.offers.specs.Rows.{rankIn}
+use Rattle.offers.specs.Offers.{placeOn, stepsOn}
+use Rattle.offers.specs.Process.{madeTo, chosen, seatBy, seatsAfter, mayOffer, turn, turns, tried, offersMade, seats}
 use Rattle.allotment.specs.Areas.{joined, wordBytes, closingPlace, closingBytes, answerBytes}
 use Rattle.allotment.specs.Outcome.{Outcome, allotted, refused, outcome, answerAfter, workAfter}
 

@@ -8,8 +8,8 @@ use Rattle.round.specs.Lists.{tabulate}
 use Rattle.round.specs.Round.{Round}
 use Rattle.choice.specs.Use.{greatest}
 use Rattle.round.specs.Places.{instituteAt}
-use Rattle.allotment.specs.Offers.{candidateOn}
-use Rattle.allotment.specs.Process.{Seat, noSeat, candidateCount, instituteCount, seats}
+use Rattle.offers.specs.Offers.{candidateOn}
+use Rattle.offers.specs.Process.{Seat, noSeat, candidateCount, instituteCount, seats}
 
 -- the lists, one after the other
 abbrev pub joined : List (List ℕ) → List ℕ

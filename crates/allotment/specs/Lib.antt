@@ -1,15 +1,7 @@
-pub mod Rows
-pub mod Offers
-pub mod Process
 pub mod Areas
 pub mod Outcome
-pub mod Standing
 pub mod Truthful
-pub mod Stable
 pub mod Promise
-pub mod Held
 pub mod Writing
 pub mod Handing
 pub mod Export
-pub mod Turns
-pub mod Tables

@@ -6,11 +6,11 @@ use mathlib.Core.List.{List}
 use lib.ListN.{length}
 use Rattle.round.specs.Reading.{roundOf}
 use Rattle.allotment.specs.declared.Answer.{Answer}
-use Rattle.allotment.specs.Process.{candidateCount}
+use Rattle.offers.specs.Process.{candidateCount}
 use Rattle.allotment.specs.Areas.{seatsIn}
 use Rattle.allotment.specs.Outcome.{outcomeOf, outcome, answerAfter, workAfter, Accepted}
 use Rattle.allotment.specs.Truthful.{Truthful}
-use Rattle.allotment.specs.Stable.{Stable}
+use Rattle.offers.specs.Stable.{Stable}
 
 -- of a call on a file with both lent areas: its answer, and what stands in the areas afterwards
 pub record Promise (file answer work : List ℕ) (result : Answer) (answerNow workNow : List ℕ) : Type 0 where

@@ -6,7 +6,7 @@ use mathlib.Core.List.{List}
 use lib.ListN.{take}
 use Rattle.round.specs.Records.{headOf, recordOf, bodyOf, candidateRecord, recordCount}
 use Rattle.round.specs.Reading.{roundOf}
-use Rattle.allotment.specs.Standing.{standing}
+use Rattle.offers.specs.Standing.{standing}
 use Rattle.allotment.specs.Areas.{seatIn}
 use Rattle.allotment.specs.Outcome.{Accepted, answerAfter}
 

@@ -9,8 +9,8 @@ use Rattle.round.specs.Round.{Round}
 use Rattle.round.specs.Records.{headOf}
 use Rattle.round.specs.Refusal.{verdict, passes}
 use Rattle.round.specs.Outcome.{MeritStarts}
-use Rattle.allotment.specs.Offers.{candidateOn}
-use Rattle.allotment.specs.Process.{Seat, noSeat}
+use Rattle.offers.specs.Offers.{candidateOn}
+use Rattle.offers.specs.Process.{Seat, noSeat}
 use Rattle.allotment.specs.Areas.{joined, seatBytes, seatIs}
 
 -- the seat that two arrays hold for candidate i

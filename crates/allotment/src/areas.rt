@@ -9,9 +9,9 @@ ghost use lib.Seq.{sets};
 ghost use Rattle.round.specs.Lists.{tabulate};
 ghost use Rattle.round.specs.Records.{headOf};
 ghost use Rattle.round.specs.Reading.{roundOf};
-ghost use Rattle.allotment.specs.Process.{seats};
+ghost use Rattle.offers.specs.Process.{seats};
 ghost use Rattle.allotment.specs.Areas.{joined, wordBytes, closingBytes, answerBytes, answerSize};
-ghost use Rattle.allotment.specs.Held.{AtHand, HeldIn};
+ghost use Rattle.offers.specs.Held.{AtHand, HeldIn};
 ghost use Rattle.allotment.specs.Writing.{seatsHeld, heldBytes, ClosingKnown};
 
 // A two-byte number, little-endian.

@@ -1,9 +1,9 @@
 // The public call: a round file in, the answer out, both lent areas written.
 use crate::Answer;
 use crate::areas::write_answer;
-use crate::clearing::clear;
-use crate::process::run_offers;
-use crate::table::zeros;
+use offers::clearing::clear;
+use offers::process::run_offers;
+use offers::table::zeros;
 use round::head::Head;
 use round::reader::Reading;
 use round::reader::read_round;
@@ -12,10 +12,10 @@ ghost use mathlib.Core.List.{_++_};
 ghost use Prim.Native.Nat.{_≤_};
 ghost use lib.ListN.{length, drop};
 ghost use Rattle.round.specs.Reading.{roundOf};
-ghost use Rattle.allotment.specs.Process.{offersMade};
+ghost use Rattle.offers.specs.Process.{offersMade};
 ghost use Rattle.allotment.specs.Areas.{answerBytes, answerSize};
 ghost use Rattle.allotment.specs.Promise.{Promise};
-ghost use Rattle.allotment.specs.Held.{AtHand};
+ghost use Rattle.offers.specs.Held.{AtHand};
 ghost use Rattle.allotment.specs.Handing.{handedUp};
 
 // A table for where the candidates' records start.

@@ -1,15 +1,8 @@
 // The allotment of a round.
 mod areas;
 mod call;
-mod clearing;
 mod closing;
 mod export;
-mod gather;
-mod process;
-mod rival;
-mod scatter;
-mod table;
-mod turn;
 
 pub use call::allot;
 

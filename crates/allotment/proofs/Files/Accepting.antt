@@ -11,7 +11,7 @@ use Rattle.round.specs.Reading.{roundOf}
 use Rattle.round.specs.Refusal as Refusal
 use Rattle.round.specs.Refusal.{Verdict, verdict, passes}
 use Rattle.round.proofs.Words.{and-fst, and-snd}
-use Rattle.allotment.specs.Process.{noSeat, candidateCount, offersMade, seats}
+use Rattle.offers.specs.Process.{noSeat, candidateCount, offersMade, seats}
 use Rattle.allotment.specs.Areas.{answerBytes, answerSize, workSize, seatIn, seatsIn}
 use Rattle.allotment.specs.Outcome.{Outcome, allotted, refused, outcome, outcomeOn, outcomeBy, answerAfter, workAfter, Accepted}
 use Rattle.allotment.proofs.Files.AreaSeats.{length-answer, seat-stands, seats-stand}

@@ -12,7 +12,7 @@ use Rattle.round.specs.Records.{Head, headIn, headOf, startOf, bodyOf, institut
 use Rattle.round.specs.Reading.{candidateIn, instituteFrom, roundOf}
 use Rattle.round.specs.Places.{candidateAt, instituteAt, noCandidate, noInstitute}
 use Rattle.round.proofs.Sound.{candidate-at, institute-at, length-candidates, length-institutes}
-use Rattle.allotment.specs.Process.{candidateCount}
+use Rattle.offers.specs.Process.{candidateCount}
 use Rattle.allotment.specs.Truthful.{Alike}
 use Rattle.allotment.proofs.Files.Bodies.{same-body}
 

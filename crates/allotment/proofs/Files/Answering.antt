@@ -11,11 +11,11 @@ use Rattle.round.specs.declared.head.Head.{Head as CodeHead}
 use Rattle.round.specs.Reading.{roundOf}
 use Rattle.round.proofs.Words.{length-tabulate}
 use Rattle.round.proofs.Sound.{length-candidates}
-use Rattle.allotment.specs.Process.{Seat, noSeat, candidateCount, instituteCount, seats}
+use Rattle.offers.specs.Process.{Seat, noSeat, candidateCount, instituteCount, seats}
 use Rattle.allotment.specs.Areas.{joined, seatBytes, closingBytes, answerBytes, answerSize}
-use Rattle.allotment.specs.Held.{AtHand, HeldIn}
+use Rattle.offers.specs.Held.{AtHand, HeldIn}
 use Rattle.allotment.specs.Writing.{seatHeld, seatsHeld, heldBytes, ClosingKnown}
-use Rattle.allotment.proofs.Rounds.Bounds.{list-length}
+use Rattle.offers.proofs.Rounds.Bounds.{list-length}
 use Rattle.allotment.proofs.Files.Pieces.{length-pieces}
 use Rattle.allotment.proofs.Files.AreaSeats.{length-answer}
 use Rattle.allotment.proofs.Files.Closing.{held-at}

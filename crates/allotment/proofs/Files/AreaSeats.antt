@@ -8,9 +8,9 @@ use lib.Seq.{getD-append-add, ext-getD}
 use Rattle.round.specs.Lists.{tabulate}
 use Rattle.round.specs.Round.{Round}
 use Rattle.round.proofs.Words.{length-tabulate, tabulate-at}
-use Rattle.allotment.specs.Process.{Seat, noSeat, candidateCount, instituteCount, seats}
+use Rattle.offers.specs.Process.{Seat, noSeat, candidateCount, instituteCount, seats}
 use Rattle.allotment.specs.Areas.{joined, wordBytes, seatBytes, closingPlace, closingBytes, answerBytes, answerSize, seatIn, seatsIn}
-use Rattle.allotment.proofs.Rounds.Bounds.{list-length}
+use Rattle.offers.proofs.Rounds.Bounds.{list-length}
 use Rattle.allotment.proofs.Files.Pieces.{length-pieces, getD-pieces}
 
 module _ (r : Round) where

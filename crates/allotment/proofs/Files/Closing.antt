@@ -14,11 +14,11 @@ use Rattle.round.specs.Places.{instituteAt, meritAt}
 use Rattle.round.specs.Sound.{SoundInstitute}
 use Rattle.round.proofs.Sound.{sound, length-candidates, length-institutes}
 use Rattle.round.proofs.Words.{tabulate-at, cond-yes, cond-no}
-use Rattle.allotment.specs.Offers.{candidateOn}
-use Rattle.allotment.specs.Process.{Seat, noSeat}
+use Rattle.offers.specs.Offers.{candidateOn}
+use Rattle.offers.specs.Process.{Seat, noSeat}
 use Rattle.allotment.specs.Areas.{seatIs, closingPlace}
 use Rattle.allotment.specs.Writing.{seatHeld, seatsHeld, seatedPlace, ClosingKnown}
-use Rattle.allotment.proofs.Rounds.Bounds.{merit-short}
+use Rattle.offers.proofs.Rounds.Bounds.{merit-short}
 
 -- the closing place by the first p places
 unfoldable pub closingTo : Round → List Seat → ℕ → ℕ → ℕ → ℕ

@@ -12,12 +12,12 @@ use Rattle.round.specs.Places.{candidateAt}
 use Rattle.round.specs.Sound.{Sound}
 use Rattle.round.proofs.Sound.{sound}
 use Rattle.allotment.specs.declared.Answer.{Answer}
-use Rattle.allotment.specs.Process.{noSeat, candidateCount, seats}
+use Rattle.offers.specs.Process.{noSeat, candidateCount, seats}
 use Rattle.allotment.specs.Areas.{seatsIn}
 use Rattle.allotment.specs.Outcome.{outcomeOf, outcome, answerAfter, workAfter, Accepted}
-use Rattle.allotment.specs.Standing.{standing}
+use Rattle.offers.specs.Standing.{standing}
 use Rattle.allotment.specs.Truthful.{Truthful}
-use Rattle.allotment.specs.Stable.{Stable}
+use Rattle.offers.specs.Stable.{Stable}
 use Rattle.allotment.specs.Promise.{Promise}
 use Rattle.allotment.proofs.Files.Accepting.{accepted-passes, seat-after, seats-after}
 use Rattle.allotment.proofs.Files.AlikeRounds.{same-head, same-institutes, same-count, inside, same-candidate, same-category, same-marks}

@@ -10,7 +10,7 @@ use lib.Seq.{sets, sets-eq}
 use Rattle.round.specs.Lists.{tabulate, tabulateFrom}
 use Rattle.round.specs.Round.{Round}
 use Rattle.round.proofs.Words.{reached}
-use Rattle.allotment.specs.Process.{Seat, noSeat}
+use Rattle.offers.specs.Process.{Seat, noSeat}
 use Rattle.allotment.specs.Areas.{joined, seatBytes, wordBytes, closingPlace, closingBytes}
 use Rattle.allotment.specs.Writing.{seatHeld, seatsHeld, heldBytes}
 use Rattle.allotment.proofs.Files.Pieces.{length-pieces}

@@ -7,7 +7,7 @@ use Rattle.round.specs.Refusal as Refusal
 use Rattle.round.specs.Refusal.{verdict, passes}
 use Rattle.round.specs.Reading.{roundOf}
 use Rattle.allotment.specs.declared.Answer.the-variants.{Allotted, Refused}
-use Rattle.allotment.specs.Process.{offersMade}
+use Rattle.offers.specs.Process.{offersMade}
 use Rattle.allotment.specs.Areas.{answerBytes, answerSize, workSize}
 use Rattle.allotment.specs.Outcome.{refused, outcome}
 use Rattle.allotment.specs.Promise.{Promise}

@@ -1,0 +1,3 @@
+pub mod Market
+pub mod Rounds
+pub mod Turns

@@ -1,0 +1,78 @@
+-- The offers (document 01, "Offers"): who offers what, how long, and the seats that result.
+-- A state of the process is how many entries of each row have been tried, best first.
+use Prim.Native.Nat.{ℕ, zero, suc}
+use mathlib.Core.Bool.{Bool, cond, not, _&&_}
+use mathlib.Core.List.{List, [], map}
+use lib.Dec.{eqb, ltb}
+use lib.ListN.{length, getD, set, replicate}
+use Rattle.round.specs.Lists.{tabulate, first, sum}
+use Rattle.round.specs.Round.{Round}
+use Rattle.offers.specs.Rows.{rowAt, rankIn, entryOf}
+use Rattle.offers.specs.Offers.{OfferSet, stepsOn, placeOn}
+
+-- document 01's seat: the number of an institute and a step; 0 and 0 for none
+pub record Seat : Type 0 where
+  pub institute : ℕ
+  pub step : ℕ
+
+abbrev pub noSeat : Seat
+noSeat = record { institute = 0; step = 0 }
+
+abbrev pub isNone : Seat → Bool
+isNone s = eqb (s .institute) 0 && eqb (s .step) 0
+
+module _ (r : Round) where
+  abbrev pub candidateCount : ℕ
+  candidateCount = length (r .candidates)
+
+  abbrev pub instituteCount : ℕ
+  instituteCount = length (r .institutes)
+
+  -- the offers made to institute j: the tried entries; an entry not in the row has the row's length for its rank and is never tried
+  unfoldable pub madeTo : List ℕ → ℕ → OfferSet
+  madeTo tried j i c = ltb (rankIn (rowAt r i) (entryOf j c)) (getD tried i 0)
+
+  -- the steps that each institute's merit list is given, each institute choosing from all offers ever made to it
+  unfoldable pub chosen : List ℕ → List (List ℕ)
+  chosen tried = tabulate instituteCount (λ j. stepsOn r j (madeTo tried j))
+
+  -- the seat of candidate i by these: the institute that holds i, and the step; no two institutes ever hold one candidate
+  unfoldable pub seatBy : List (List ℕ) → ℕ → Seat
+  seatBy steps i =
+      let stepBy : ℕ → ℕ = λ j. getD (getD steps j []) (placeOn r j i) 0 in
+      let holder : ℕ = first instituteCount (λ j. not (eqb (stepBy j) 0)) in
+      cond (ltb holder instituteCount) (record { institute = suc holder; step = stepBy holder }) noSeat
+
+  unfoldable pub seatsAfter : List ℕ → List Seat
+  seatsAfter tried = let steps = chosen tried in tabulate candidateCount (seatBy steps)
+
+  -- held by no institute, and with an untried entry
+  unfoldable pub mayOffer : List ℕ → List Seat → ℕ → Bool
+  mayOffer tried seats i = isNone (getD seats i noSeat) && ltb (getD tried i 0) (length (rowAt r i))
+
+  -- one turn: the lowest-numbered candidate who may offers the best untried entry
+  unfoldable pub turn : List ℕ → List ℕ
+  turn tried =
+      let seats = seatsAfter tried in
+      let i : ℕ = first candidateCount (mayOffer tried seats) in
+      cond (ltb i candidateCount) (set tried i (suc (getD tried i 0))) tried
+
+  unfoldable pub turns : ℕ → List ℕ → List ℕ
+  turns zero tried = tried
+  turns (suc n) tried = turns n (turn tried)
+
+  abbrev pub entryTotal : ℕ
+  entryTotal = sum (map (λ c. length (c .row)) (r .candidates))
+
+  -- the state in which the process ends: a turn tries one more entry while anyone may offer, and then none, so as many turns as there are
+  -- entries reach the end
+  unfoldable pub tried : List ℕ
+  tried = turns entryTotal (replicate candidateCount 0)
+
+  -- the number of offers of the process
+  unfoldable pub offersMade : ℕ
+  offersMade = sum tried
+
+  -- document 01's list: the seat of each candidate
+  unfoldable pub seats : List Seat
+  seats = seatsAfter tried
