@@ -9,7 +9,22 @@ use second::random::Random;
 use second::reading::{Candidate, Institute, Round, OPEN};
 use second::writing;
 
-/// An institute with at each merit place the marks and the offer of the candidate there.
+/// Sets of offers, by the bits of their codes, that the places of a case draw from: at most one offer each, then also the open
+/// entry with that of the own category, then with bits that stand for no category.
+const OFFERS: [&[u8]; 10] = [
+    &[0, 1, 1, 2, 4, 8, 8, 16],
+    &[1],
+    &[1, 8],
+    &[1, 1, 1, 8],
+    &[0, 1, 2, 4, 8, 16],
+    &[9],
+    &[1, 8, 9],
+    &[3, 5, 9, 17],
+    &[0, 1, 1, 2, 3, 4, 5, 8, 9, 9, 16, 17],
+    &[32, 33, 72, 137, 228],
+];
+
+/// An institute with at each merit place the marks and the offers of the candidate there.
 pub struct Case {
     pub institute: Institute,
     pub types: usize,
@@ -32,14 +47,8 @@ impl Case {
         let marks = (0..places)
             .map(|_| some_marks(random, types, thin, near))
             .collect();
-        let kinds: &[u8] = random.pick(&[
-            &[0, 1, 1, 2, 3, 4, 4, 5],
-            &[1],
-            &[1, 4],
-            &[1, 1, 1, 4],
-            &[0, 1, 2, 3, 4, 5],
-        ]);
-        let offers = (0..places).map(|_| random.pick(kinds)).collect();
+        let sets = random.pick(&OFFERS);
+        let offers = (0..places).map(|_| random.pick(sets)).collect();
         Case {
             institute,
             types,
@@ -82,11 +91,13 @@ impl Case {
             candidates,
         };
         let offers: Vec<Offer> = (0..self.offers.len())
-            .filter(|&place| self.offers[place] > 0)
-            .map(|place| Offer {
-                candidate: place,
-                category: self.offers[place] - 1,
+            .flat_map(|candidate| {
+                (0..5).map(move |category| Offer {
+                    candidate,
+                    category,
+                })
             })
+            .filter(|offer| self.offers[offer.candidate] >> offer.category & 1 == 1)
             .collect();
         let mut steps = vec![0; self.offers.len()];
         for taken in Document.choose(&round, 0, &offers) {

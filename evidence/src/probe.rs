@@ -32,7 +32,7 @@ pub fn verdict(file: &[u8]) -> Result<(), Refusal> {
     }
 }
 
-/// What an institute chooses: the body is that of its record; at each merit place, best first, stand the marks and the offer (0 for none, else 1 and the category code) of the candidate there, and the step (0 for none) is written.
+/// What an institute chooses: the body is that of its record; at each merit place, best first, stand the marks and the offers (a bit for each category code) of the candidate there, and the step (0 for none) is written.
 pub fn choose(
     body: &[u8],
     types: usize,

@@ -18,32 +18,35 @@ use Rattle.offers.specs.Process.{offersMade}
 use Rattle.allotment.specs.Areas.{answerBytes, answerSize, workSize}
 use Rattle.allotment.specs.Promise.{Promise}
 use Rattle.offers.specs.Held.{AtHand}
-use Rattle.allotment.specs.Handing.{handedUp}
-use Rattle.offers.proofs.Turns.Known.{candidates-many, institutes-many, round-sound}
-use Rattle.allotment.proofs.Promise.{promise-refused, promise-answer-small, promise-work-small, promise-allotted}
+use Rattle.allotment.specs.Handing.{refusedBy}
+use Rattle.offers.proofs.Sweeps.Known.{candidates-many, institutes-many, round-sound}
+use Rattle.allotment.proofs.Files.Returns.{promise-refused, promise-answer-small, promise-work-small, promise-allotted}
 
 -- a round that was read
-module _ (file : List ℕ) (h : CodeHead) (candidates merits : List ℕ) (hand : AtHand file h candidates merits) where
+module _ {file : List ℕ} {h : CodeHead} {candidates merits : List ℕ} (hand : AtHand file h candidates merits) where
   pub few : (h .candidates ≤ 512) × (h .institutes ≤ 32)
   few =
       let s = round-sound hand in
       omega (arith, candidates-many hand, institutes-many hand, s .candidates-most, s .institutes-most)
 
   -- a table of zeros has a place for each candidate
-  pub places : (table : List ℕ) → table ≡ replicate 512 0 → h .candidates ≤ length table
-  places table e = omega (arith, few, sized 512 e)
+  pub places : {table : List ℕ} → table ≡ replicate 512 0 → h .candidates ≤ length table
+  places e = omega (arith, few, sized 512 e)
 
-  pub places-many : (table : List ℕ) → table ≡ replicate 512 0 → length (take (h .candidates) table) ≡ h .candidates
-  places-many table e = length-take-le (h .candidates) table (places table e)
+  pub places-many : {table : List ℕ} → table ≡ replicate 512 0 → length (take (h .candidates) table) ≡ h .candidates
+  places-many {table} e = length-take-le (h .candidates) table (places e)
 
   -- the sizes that question 14 asks for
-  pub answer-size : answerSize (roundOf file) ≡ 2 * h .candidates + 12 * h .institutes
+  answer-size : answerSize (roundOf file) ≡ 2 * h .candidates + 12 * h .institutes
   answer-size = omega (arith, candidates-many hand, institutes-many hand)
 
   work-size : workSize (roundOf file) ≡ 8 * h .candidates
   work-size = omega (arith, candidates-many hand)
 
-  module _ (answer work : List ℕ) where
+  pub answer-fits : {size : ℕ} → 2 * h .candidates + 12 * h .institutes ≤ size → answerSize (roundOf file) ≤ size
+  answer-fits l = omega (arith, answer-size)
+
+  module _ {answer work : List ℕ} where
     pub answer-small : length answer < 2 * h .candidates + 12 * h .institutes → Promise file answer work (Refused 14 0) answer work
     answer-small l = promise-answer-small file answer work (hand .passing) (omega (arith, answer-size))
 
@@ -61,12 +64,12 @@ module _ (file : List ℕ) (h : CodeHead) (candidates merits : List ℕ) (hand :
         (rw work-size cleared))
 
 -- a file that was asked about
-module _ (file : List ℕ) {got : Reading} {candidates₀ candidates merits₀ merits : List ℕ} (asked : RoundRead file got candidates₀ candidates merits₀ merits) where
+module _ {file : List ℕ} {got : Reading} {candidates₀ candidates merits₀ merits : List ℕ} (asked : RoundRead file got candidates₀ candidates merits₀ merits) where
   -- it is refused
-  pub handed-refused : (answer work : List ℕ) {result : Answer} {number offset : ℕ} → result ≡ handedUp got → got ≡ ReadingRefused number offset
+  pub handed-refused : {answer work : List ℕ} {result : Answer} {number offset : ℕ} → result ≡ refusedBy got → got ≡ ReadingRefused number offset
       → Promise file answer work result answer work
-  handed-refused answer work {result} {number} {offset} e told =
-      let result-is : result ≡ Refused number offset = e ∙ ap handedUp told in
+  handed-refused {answer} {work} {result} {number} {offset} e told =
+      let result-is : result ≡ Refused number offset = e ∙ ap refusedBy told in
       rw result-is (promise-refused file answer work number offset (sym (asked .answer) ∙ ap verdictOf told))
 
   -- it is read

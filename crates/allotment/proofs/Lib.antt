@@ -1,4 +1,3 @@
 pub mod Starred
 pub mod Files
-pub mod Promise
 pub mod Calling

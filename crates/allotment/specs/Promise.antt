@@ -10,6 +10,7 @@ use Rattle.offers.specs.Process.{candidateCount}
 use Rattle.allotment.specs.Areas.{seatsIn}
 use Rattle.allotment.specs.Outcome.{outcomeOf, outcome, answerAfter, workAfter, Accepted}
 use Rattle.allotment.specs.Truthful.{Truthful}
+use Rattle.offers.specs.Ended.{AtEnd}
 use Rattle.offers.specs.Stable.{Stable}
 
 -- of a call on a file with both lent areas: its answer, and what stands in the areas afterwards
@@ -19,3 +20,4 @@ pub record Promise (file answer work : List ℕ) (result : Answer) (answerNow wo
   pub workArea : workNow ≡ workAfter file answer work
   pub truthful : Accepted file answer work → Truthful file answerNow
   pub stable : Accepted file answer work → Stable (roundOf file) (seatsIn (candidateCount (roundOf file)) answerNow)
+  pub process : Accepted file answer work → AtEnd (roundOf file)

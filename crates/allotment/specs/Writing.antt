@@ -6,11 +6,15 @@ use mathlib.Core.List.{List}
 use lib.ListN.{length, getD}
 use Rattle.round.specs.Lists.{tabulate}
 use Rattle.round.specs.Round.{Round}
+use Rattle.round.specs.declared.head.Head.{Head as CodeHead}
 use Rattle.round.specs.Records.{headOf}
+use Rattle.round.specs.Reading.{roundOf}
+use Rattle.round.specs.Read.{asHead}
 use Rattle.round.specs.Refusal.{verdict, passes}
 use Rattle.round.specs.Outcome.{MeritStarts}
 use Rattle.offers.specs.Offers.{candidateOn}
-use Rattle.offers.specs.Process.{Seat, noSeat}
+use Rattle.offers.specs.Process.{Seat, noSeat, seats}
+use Rattle.offers.specs.Held.{HeldIn}
 use Rattle.allotment.specs.Areas.{joined, seatBytes, seatIs}
 
 -- the seat that two arrays hold for candidate i
@@ -30,6 +34,13 @@ heldBytes holders steps =
 -- a merit place of institute j, from 1, where the candidate there is seated at its step k, else 0
 unfoldable pub seatedPlace : Round → List Seat → ℕ → ℕ → ℕ → ℕ
 seatedPlace r list j k p = cond (seatIs (getD list (candidateOn r j p) noSeat) (suc j) k) (suc p) 0
+
+-- an accepted file with its head and its table of merit lists, and two arrays that hold the list of its round
+pub record AnswerKnown (file : List ℕ) (h : CodeHead) (merits holders steps : List ℕ) : Type 0 where
+  pub accepted : verdict file ≡ passes
+  pub head : asHead h ≡ headOf file
+  pub table : MeritStarts file merits
+  pub list : HeldIn (seats (roundOf file)) holders steps
 
 -- an accepted file with its table of merit lists, and two arrays with a place for each candidate
 pub record ClosingKnown (file merits holders steps : List ℕ) : Type 0 where

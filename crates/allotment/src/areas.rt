@@ -9,10 +9,8 @@ ghost use lib.Seq.{sets};
 ghost use Rattle.round.specs.Lists.{tabulate};
 ghost use Rattle.round.specs.Records.{headOf};
 ghost use Rattle.round.specs.Reading.{roundOf};
-ghost use Rattle.offers.specs.Process.{seats};
 ghost use Rattle.allotment.specs.Areas.{joined, wordBytes, closingBytes, answerBytes, answerSize};
-ghost use Rattle.offers.specs.Held.{AtHand, HeldIn};
-ghost use Rattle.allotment.specs.Writing.{seatsHeld, heldBytes, ClosingKnown};
+ghost use Rattle.allotment.specs.Writing.{seatsHeld, heldBytes, AnswerKnown, ClosingKnown};
 
 // A two-byte number, little-endian.
 fn write_word(area: &mut [u8], at: usize, x: usize)
@@ -83,14 +81,12 @@ fn write_closings(
 pub fn write_answer(
     file: &[u8],
     h: Head,
-    candidates: &[usize],
     merits: &[usize],
     holders: &[u8],
     steps: &[u8],
     answer: &mut [u8],
 )
-    requires { ⌜ AtHand (now file) h (now candidates) (now merits) ⌝ }
-    requires { ⌜ HeldIn (seats (roundOf (now file))) (now holders) (now steps) ⌝ }
+    requires { ⌜ AnswerKnown (now file) h (now merits) (now holders) (now steps) ⌝ }
     requires { ⌜ answerSize (roundOf (now file)) ≤ length (now answer) ⌝ }
     ensures { λ _. ⌜ now (answer .exit)
         ≡ answerBytes (roundOf (now (file .entry))) ++ drop (answerSize (roundOf (now (file .entry)))) (now (answer .entry)) ⌝ }

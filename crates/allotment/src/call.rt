@@ -16,7 +16,7 @@ ghost use Rattle.offers.specs.Process.{offersMade};
 ghost use Rattle.allotment.specs.Areas.{answerBytes, answerSize};
 ghost use Rattle.allotment.specs.Promise.{Promise};
 ghost use Rattle.offers.specs.Held.{AtHand};
-ghost use Rattle.allotment.specs.Handing.{handedUp};
+ghost use Rattle.allotment.specs.Handing.{refusedBy};
 
 // A table for where the candidates' records start.
 fn no_rows() -> [usize; 512]
@@ -32,9 +32,9 @@ fn no_lists() -> [usize; 32]
     [0; 32]
 }
 
-// The refusal that the reader hands up.
+// The answer to a file that the reader refused; one that was read is never handed up, and what is given for it is of no matter.
 fn handed(got: Reading) -> Answer
-    ensures { λ r. ⌜ r ≡ handedUp got ⌝ }
+    ensures { λ r. ⌜ r ≡ refusedBy got ⌝ }
 {
     match got {
         Reading::Read(_) => Answer::Refused {
@@ -63,7 +63,7 @@ fn seat_all(
         ≡ answerBytes (roundOf (now (file .entry))) ++ drop (answerSize (roundOf (now (file .entry)))) (now (answer .entry))) ⌝ }
 {
     let offers = run_offers(file, h, candidates, merits, holders, steps);
-    write_answer(file, h, candidates, merits, holders, steps, answer);
+    write_answer(file, h, merits, holders, steps, answer);
     offers
 }
 

@@ -1,102 +1,162 @@
--- All steps: each goes on from what the steps before it left, and step 6 gets what step 4 left vacant.
-use Prim.Native.Nat.{ℕ, suc}
-use mathlib.Core.Path.{_≡_, refl, sym, ap, _∙_}
-use mathlib.Core.Bool.{true, false}
+-- One step after the other: what the code keeps after a step is what the definition has done.
+use Prim.Native.Nat.{ℕ, zero, suc, _+_, _*_, _-_, _≤_, _<_}
+use mathlib.Core.Path.{_≡_, refl, sym, ap, _∙_, fun-ext}
+use mathlib.Core.Bool.{Bool, true, false, cond}
 use mathlib.Core.List.{List}
 use native.Mathlib.Omega.{arith}
+use native.Mathlib.Numerals.{add-one}
+use native.Mathlib.Nat.{add-zero, pow-succ', pow-le-pow-right, suc-mul, mul-le-mul-right}
 use lib.Dec.{eqb}
-use lib.ListN.{length, replicate}
+use lib.ListN.{length, getD, take, drop, set, length-set, replicate, length-replicate, length-drop}
+use lib.Seq.{getD-set-same, getD-set-other, getD-take, getD-drop, ext-getD, length-take-le}
+use borrow.Author.Tests.{eq-eqb, ne-eqb}
 use Rattle.round.specs.Category.{codeOf, categoryOf}
-use Rattle.round.specs.Questions.{positionsIn}
-use Rattle.round.specs.Round.{StepRule}
-use Rattle.round.specs.Reading.{stepIn, dereserved, stepsIn}
+use Rattle.round.specs.Lists.{tabulate, tabulateFrom}
+use Rattle.round.specs.Rules.{numberIn, ruleIn, rulesIn, RuleTable}
+use Rattle.round.proofs.Words.{length-tabulate, tabulate-at}
+use Rattle.round.proofs.Rows.{row-start}
 use Rattle.choice.specs.Choice.{Progress, considers, positionsAt, takenAt, vacantAt, advance, advanceAll, nothingDone, choose}
 use Rattle.choice.specs.Offers.{offeredBy, considersBy}
-use Rattle.choice.specs.Fill.{stepGiven, stepVacant, ownGiven, ownVacant, dereservedGiven}
+use Rattle.choice.specs.Fill.{stepGiven, stepVacant}
+use Rattle.choice.specs.Handed.{doneBy, Handing}
+use Rattle.choice.proofs.Counting.{sameOr}
+use Rattle.choice.proofs.Tabulate.{getD-zeros}
 
-module _ (marks offers : List ℕ) where
-  -- a step of the code is a step of the choice
-  stepped : (k : ℕ) (rule : StepRule) (done : Progress) (given steps : List ℕ) (wanted positions : ℕ) → given ≡ done .given
-      → wanted ≡ suc (codeOf (rule .category)) → positions ≡ positionsAt marks (offeredBy offers) k rule done
-      → steps ≡ stepGiven k (rule .reserved) marks (considersBy offers given wanted) positions given
-      → steps ≡ advance marks (offeredBy offers) k rule done .given
-  unfolding advance takenAt considers
-  stepped k rule done given steps wanted positions eg ew ep h = rw (eg, ew, ep) at h
+code-back : (code : ℕ) → code < 5 → codeOf (categoryOf code) ≡ code
+code-back zero l = refl
+code-back (suc zero) l = refl
+code-back (suc (suc zero)) l = refl
+code-back (suc (suc (suc zero))) l = refl
+code-back (suc (suc (suc (suc zero)))) l = refl
+code-back (suc (suc (suc (suc (suc code))))) l = absurd (omega arith)
 
-  vacated : (k : ℕ) (rule : StepRule) (done : Progress) (given : List ℕ) (wanted positions vacant : ℕ) → given ≡ done .given
-      → wanted ≡ suc (codeOf (rule .category)) → positions ≡ positionsAt marks (offeredBy offers) k rule done
-      → vacant ≡ stepVacant (rule .reserved) marks (considersBy offers given wanted) positions
-      → vacant ≡ vacantAt marks (offeredBy offers) k rule done
-  unfolding vacantAt takenAt considers
-  vacated k rule done given wanted positions vacant eg ew ep h = rw (eg, ew, ep) at h
+-- fewer rows of a table of rules
+pub fewer-rules : (types n m : ℕ) (table : List ℕ) → m ≤ n → RuleTable types n table → RuleTable types m table
+fewer-rules types n m table l t = record {
+  types-most = t .types-most;
+  steps-most = omega (arith, t .steps-most);
+  long = omega (arith, t .long, mul-le-mul-right (3 + types) l);
+  coded = λ k b. t .coded k (omega arith);
+  handed-on = λ k b. t .handed-on k (omega arith);
+  own-most = λ k b. t .own-most k (omega arith);
+}
 
-  module _ (types : ℕ) (body : List ℕ) where
-    abbrev P : ℕ → ℕ → ℕ → Progress → Progress
-    P k code receiver done = advance marks (offeredBy offers) k (stepIn types body code receiver) done
+-- a row lies within the table
+pub row-within : (types k : ℕ) (table : List ℕ) → RuleTable types (suc k) table → (k * (3 + types) + (3 + types) ≤ length table) × (k * (3 + types) ≤ 132)
+row-within types k table t = (omega (arith, t .long, suc-mul k (3 + types)), omega (arith, row-start types k 12 (t .types-most) (omega (arith, t .steps-most))))
 
-    own-positions : (k code receiver : ℕ) (done : Progress) → done .handed k ≡ 0
-        → positionsIn types body code ≡ positionsAt marks (offeredBy offers) k (stepIn types body code receiver) done
-    unfolding positionsAt stepIn
-    own-positions k code receiver done z = omega arith
+-- the part of a row that has the reserved positions
+reserved-part : (types k : ℕ) (table : List ℕ) → RuleTable types (suc k) table
+    → take types (drop (k * (3 + types) + 3) table) ≡ tabulate types (λ t. numberIn types table k (3 + t))
+reserved-part types k table t =
+    ext-getD 0 _ _ (sized ∙ sym (length-tabulate 0 types _))
+    (λ i l.
+    let b : i < types = omega (arith, sized) in
+    let e : k * (3 + types) + 3 + i ≡ k * (3 + types) + (3 + i) = omega arith in
+    getD-take types (drop (k * (3 + types) + 3) table) i 0 b
+    ∙ getD-drop (k * (3 + types) + 3) table i 0
+    ∙ ap (λ (x : ℕ). getD table x 0) e
+    ∙ sym (tabulate-at types (λ t. numberIn types table k (3 + t)) 0 i b))
+  where
+    sized : length (take types (drop (k * (3 + types) + 3) table)) ≡ types
+    sized = length-take-le types _ (simp length-drop (omega (arith, row-within types k table t .0)))
 
-    own : (code receiver : ℕ) (done : Progress) (given steps : List ℕ) → codeOf (categoryOf code) ≡ code → done .handed (suc code) ≡ 0
-        → given ≡ done .given → steps ≡ ownGiven types body code marks offers given → steps ≡ P (suc code) code receiver done .given
-    own code receiver done given steps ec z eg h =
-        stepped (suc code) (stepIn types body code receiver) done given steps (suc code) (positionsIn types body code) eg
-        (unfold stepIn in ap suc (sym ec))
-        (own-positions (suc code) code receiver done z) (unfold stepIn in h)
+-- what was handed grows at the receiver alone
+handed-grows : (handed : List ℕ) (receiver vacant : ℕ) → receiver < length handed → (j : ℕ)
+    → getD (set handed receiver (getD handed receiver 0 + vacant)) j 0 ≡ getD handed j 0 + cond (eqb j receiver) vacant 0
+handed-grows handed receiver vacant l j =
+    sameOr j receiver (λ s. rw (s, getD-set-same handed receiver (getD handed receiver 0 + vacant) 0 l, eq-eqb receiver receiver refl))
+    (λ n. getD-set-other handed receiver j _ 0 n ∙ rw (ne-eqb j receiver n) (sym (add-zero (getD handed j 0))))
 
-    own-left : (code receiver : ℕ) (done : Progress) (given : List ℕ) (vacant : ℕ) → codeOf (categoryOf code) ≡ code → done .handed (suc code) ≡ 0
-        → given ≡ done .given → vacant ≡ ownVacant types body code marks offers given
-        → vacant ≡ vacantAt marks (offeredBy offers) (suc code) (stepIn types body code receiver) done
-    own-left code receiver done given vacant ec z eg h =
-        vacated (suc code) (stepIn types body code receiver) done given (suc code) (positionsIn types body code) vacant eg
-        (unfold stepIn in ap suc (sym ec))
-        (own-positions (suc code) code receiver done z) (unfold stepIn in h)
+done-same : (done : Progress) (given handed : List ℕ) → given ≡ done .given → ((j : ℕ) → getD handed j 0 ≡ done .handed j) → doneBy given handed ≡ done
+done-same done given handed e h =
+    ap (λ (l : List ℕ). record { given = l; handed = λ j. getD handed j 0 }) e
+    ∙ ap (λ (f : ℕ → ℕ). record { given = done .given; handed = f }) (fun-ext h)
 
-    -- the steps of the codes 0 to 4, one after the other; vacant is what step 4 leaves
-    pub record Ran (steps₀ steps₁ steps₂ steps₃ steps₄ steps₅ : List ℕ) (vacant : ℕ) : Type 0 where
-      pub clean : steps₀ ≡ replicate (length marks) 0
-      pub first : steps₁ ≡ ownGiven types body 0 marks offers steps₀
-      pub second : steps₂ ≡ ownGiven types body 1 marks offers steps₁
-      pub third : steps₃ ≡ ownGiven types body 2 marks offers steps₂
-      pub fourth : steps₄ ≡ ownGiven types body 3 marks offers steps₃
-      pub fifth : steps₅ ≡ ownGiven types body 4 marks offers steps₄
-      pub left : vacant ≡ ownVacant types body 3 marks offers steps₃
+-- the numbers handed are small
+pub handed-small : (k : ℕ) (handed : List ℕ) → k ≤ 12 → Handing k handed → (j : ℕ) → getD handed j 0 ≤ 65535 * 4096
+handed-small k handed l h j = let two : 0 < 2 = omega arith in omega (arith, h .low j, pow-le-pow-right two l)
 
-    module _ (steps₀ steps₁ steps₂ steps₃ steps₄ steps₅ : List ℕ) (vacant : ℕ) (r : Ran steps₀ steps₁ steps₂ steps₃ steps₄ steps₅ vacant) where
-      abbrev P₀ : Progress
-      P₀ = nothingDone marks (offeredBy offers)
+-- row k of the rules, at the place where the code reads it, and what stands before the step
+module _ (types k : ℕ) (rules handed : List ℕ) (t : RuleTable types (suc k) rules) (h : Handing k handed) where
+  abbrev at : ℕ
+  at = k * (3 + types)
 
-      abbrev P₃ : Progress
-      P₃ = P 3 2 0 (P 2 1 0 (P 1 0 0 P₀))
+  pub code-low : getD rules at 0 < 5
+  code-low = rw add-zero at (t .coded k (omega arith))
 
-      after₃ : steps₃ ≡ P₃ .given
-      after₃ =
-          own 2 0 (P 2 1 0 (P 1 0 0 P₀)) steps₂ steps₃ refl (unfold advance nothingDone stepIn in refl)
-          (own 1 0 (P 1 0 0 P₀) steps₁ steps₂ refl (unfold advance nothingDone stepIn in refl)
-          (own 0 0 P₀ steps₀ steps₁ refl (unfold nothingDone in refl) (unfold nothingDone in r .clean) (r .first)) (r .second))
-          (r .third)
+  pub receiver-low : getD rules (at + 1) 0 < length handed
+  receiver-low = omega (arith, t .handed-on k (omega arith), h .sized)
 
-      after₅ : (receiver : ℕ) → eqb 5 receiver ≡ false → steps₅ ≡ P 5 4 0 (P 4 3 receiver P₃) .given
-      after₅ receiver e =
-          own 4 0 (P 4 3 receiver P₃) steps₄ steps₅ refl (unfold advance nothingDone stepIn in rw e)
-          (own 3 receiver P₃ steps₃ steps₄ refl (unfold advance nothingDone stepIn in refl) after₃ (r .fourth))
-          (r .fifth)
+  abbrev positions : ℕ
+  positions = getD rules (at + 2) 0 + getD handed (k + 1) 0
 
-      -- policy 0
-      pub chosen-five : (policy : ℕ) → eqb policy 1 ≡ false → steps₅ ≡ choose marks (offeredBy offers) (stepsIn types policy body)
-      chosen-five policy e = unfold choose advanceAll stepsIn in rw e (after₅ 0 refl)
+  -- what is handed to each step after this one
+  abbrev handing-on : ℕ → List ℕ
+  handing-on vacant = set handed (getD rules (at + 1) 0) (getD handed (getD rules (at + 1) 0) 0 + vacant)
 
-      -- policy 1
-      pub chosen-six : (policy : ℕ) → eqb policy 1 ≡ true → (steps₆ : List ℕ) → steps₆ ≡ dereservedGiven types vacant marks offers steps₅
-          → steps₆ ≡ choose marks (offeredBy offers) (stepsIn types policy body)
-      chosen-six policy e steps₆ h =
-          unfold choose advanceAll stepsIn in
-          rw e
-          (stepped 6 (dereserved types) (P 5 4 0 (P 4 3 6 P₃)) steps₅ steps₆ 1 vacant (after₅ 6 refl) (unfold dereserved in refl) handed (unfold dereserved in h))
-        where
-          handed : vacant ≡ positionsAt marks (offeredBy offers) 6 (dereserved types) (P 5 4 0 (P 4 3 6 P₃))
-          handed =
-              own-left 3 6 P₃ steps₃ vacant refl (unfold advance nothingDone stepIn in refl) after₃ (r .left)
-              ∙ (unfold positionsAt advance nothingDone stepIn dereserved in omega arith)
+  -- no number wraps
+  pub still-low : (vacant : ℕ) → vacant ≤ positions → Handing (suc k) (handing-on vacant)
+  still-low vacant le = record {
+    sized = simp length-set (h .sized);
+    low = λ j.
+        rw (handed-grows handed (getD rules (at + 1) 0) vacant receiver-low j)
+        (omega (arith, pow-succ' 2 k, h .low j, h .low (k + 1), t .own-most k (omega arith), at-most (eqb j (getD rules (at + 1) 0))));
+  }
+    where
+      at-most : (b : Bool) → cond b vacant 0 ≤ vacant
+      at-most true = omega arith
+      at-most false = omega arith
+
+  -- a step of the code is a step of the definition
+  pub step-advances : (marks offers given given' : List ℕ) (vacant : ℕ)
+      → (given' ≡ stepGiven (k + 1) (take (at + 3 + types - (at + 3)) (drop (at + 3) rules)) marks (considersBy offers given (getD rules at 0)) positions given)
+      × (vacant ≡ stepVacant (take (at + 3 + types - (at + 3)) (drop (at + 3) rules)) marks (considersBy offers given (getD rules at 0)) positions)
+      → (doneBy given' (handing-on vacant) ≡ advance marks (offeredBy offers) (suc k) (ruleIn types rules k) (doneBy given handed)) × Handing (suc k) (handing-on vacant)
+  unfolding advance vacantAt takenAt positionsAt considers ruleIn
+  step-advances marks offers given given' vacant s = (
+    done-same (advance marks (offeredBy offers) (suc k) (ruleIn types rules k) (doneBy given handed)) given' (handing-on vacant)
+        (rw (reserved, coded, add-one) at (s .0))
+        (λ j. handed-grows handed (getD rules (at + 1) 0) vacant receiver-low j ∙ rw (rw (reserved, coded, add-one) at (s .1))),
+    still-low vacant (omega (arith, s .1)),
+  )
+    where
+      coded : getD rules at 0 ≡ codeOf (categoryOf (numberIn types rules k 0))
+      coded = rw add-zero (sym (code-back (getD rules at 0) code-low))
+
+      reserved : take (at + 3 + types - (at + 3)) (drop (at + 3) rules) ≡ tabulate types (λ t. numberIn types rules k (3 + t))
+      reserved = let n : at + 3 + types - (at + 3) ≡ types = omega arith in rw n (reserved-part types k rules t)
+
+-- after k steps the rest of the rules leads to what all of them lead to from nothing done
+pub record Going (marks offers rules : List ℕ) (types count k : ℕ) (steps handed : List ℕ) : Type 0 where
+  pub sized : length steps ≡ length marks
+  pub handing : Handing k handed
+  pub rest : advanceAll marks (offeredBy offers) (suc k) (tabulateFrom k (count - k) (ruleIn types rules)) (doneBy steps handed)
+      ≡ advanceAll marks (offeredBy offers) 1 (rulesIn types count rules) (nothingDone marks (offeredBy offers))
+
+module _ (marks offers rules : List ℕ) (types count : ℕ) where
+  pub set-out : (steps handed : List ℕ) → steps ≡ replicate (length marks) 0 → handed ≡ replicate 13 0 → Going marks offers rules types count 0 steps handed
+  set-out steps handed es eh = record {
+    sized = ap length es ∙ length-replicate (length marks) 0;
+    handing = record { sized = ap length eh; low = λ j. rw (eh, getD-zeros 13 j) (omega arith) };
+    rest =
+        let all : count - 0 ≡ count = omega arith in
+        rw all
+        (ap (advanceAll marks (offeredBy offers) 1 (rulesIn types count rules))
+        (unfold nothingDone in done-same (nothingDone marks (offeredBy offers)) steps handed es (λ j. rw eh (getD-zeros 13 j))));
+  }
+
+  pub go-on : (k : ℕ) (steps handed steps' handed' : List ℕ) → k < count → Going marks offers rules types count k steps handed → length steps' ≡ length steps
+      → (doneBy steps' handed' ≡ advance marks (offeredBy offers) (suc k) (ruleIn types rules k) (doneBy steps handed)) × Handing (suc k) handed'
+      → Going marks offers rules types count (k + 1) steps' handed'
+  unfolding advanceAll
+  go-on k steps handed steps' handed' l g len s = rw add-one record {
+    sized = len ∙ g .sized;
+    handing = s .1;
+    rest = rw (s .0) (let more : count - k ≡ suc (count - suc k) = omega arith in rw more at (g .rest));
+  }
+
+  pub arrive : (k : ℕ) (steps handed : List ℕ) → count ≤ k → Going marks offers rules types count k steps handed
+      → steps ≡ choose marks (offeredBy offers) (rulesIn types count rules)
+  unfolding choose advanceAll
+  arrive k steps handed l g = let none : count - k ≡ 0 = omega arith in ap (λ (done : Progress). done .given) (rw none at (g .rest))

@@ -28,7 +28,7 @@ pub number-below : (X : ℕ → Bool) (p n : ℕ) → p < n → X p ≡ true →
 number-below X p n l x = omega (arith, bit-true (X p) x, count-more X (suc p) n (omega arith))
 
 -- X' says of the gathered what X says of the places below n, and nothing else is in X
-pub record Same (G : ℕ → Bool) (n : ℕ) (X X' : ℕ → Bool) : Type 0 where
+pub record SameAmong (G : ℕ → Bool) (n : ℕ) (X X' : ℕ → Bool) : Type 0 where
   pub inside : (p : ℕ) → p < n → G p ≡ true → X' (count p G) ≡ X p
   pub outside : (p : ℕ) → p < n → G p ≡ false → X p ≡ false
 
@@ -39,14 +39,14 @@ module _ (G : ℕ → Bool) (n : ℕ) where
   next-out : (p : ℕ) → G p ≡ false → count (suc p) G ≡ count p G
   next-out p g = rw g (omega arith)
 
-  same-count : (X X' : ℕ → Bool) → Same G n X X' → (p : ℕ) → p ≤ n → count (count p G) X' ≡ count p X
+  same-count : (X X' : ℕ → Bool) → SameAmong G n X X' → (p : ℕ) → p ≤ n → count (count p G) X' ≡ count p X
   same-count X X' s zero l = refl
   same-count X X' s (suc p) l =
       test (G p)
       (λ g. rw (next-in p g, s .inside p (omega arith) g, same-count X X' s p (omega arith)))
       (λ g. rw (next-out p g, s .outside p (omega arith) g, same-count X X' s p (omega arith)) (omega arith))
 
-  module _ (marks marks' : List ℕ) (whole : length marks ≡ n) (few : length marks' ≡ count n G) (gathers : Gathers G n (λ p. getD marks p 0) marks') (reserved : List ℕ) (X X' : ℕ → Bool) (s : Same G n X X') where
+  module _ (marks marks' : List ℕ) (whole : length marks ≡ n) (few : length marks' ≡ count n G) (gathers : Gathers G n (λ p. getD marks p 0) marks') (reserved : List ℕ) (X X' : ℕ → Bool) (s : SameAmong G n X X') where
     same-before : (p : ℕ) → p ≤ n → takenBefore reserved marks' X' (count p G) ≡ takenBefore reserved marks X p
     unfolding takenBefore
     same-before zero l = refl
@@ -55,21 +55,21 @@ module _ (G : ℕ → Bool) (n : ℕ) where
         (λ g. rw (next-in p g, s .inside p (omega arith) g, gathers p (omega arith) g, same-before p (omega arith)))
         (λ g. rw (next-out p g, s .outside p (omega arith) g) (same-before p (omega arith)))
 
-    same-use : Same G n (takenForUse reserved marks X) (takenForUse reserved marks' X')
+    same-use : SameAmong G n (takenForUse reserved marks X) (takenForUse reserved marks' X')
     unfolding takenForUse
     same-use = record {
       inside = λ p l g. rw (s .inside p l g, gathers p l g, same-before p (omega arith));
       outside = λ p l g. rw (s .outside p l g);
     }
 
-    same-remaining : Same G n (remaining reserved marks X) (remaining reserved marks' X')
+    same-remaining : SameAmong G n (remaining reserved marks X) (remaining reserved marks' X')
     unfolding remaining
     same-remaining = record {
       inside = λ p l g. rw (s .inside p l g, same-use .inside p l g);
       outside = λ p l g. rw (s .outside p l g);
     }
 
-    same-taken : (q : ℕ) → Same G n (taken reserved marks X q) (taken reserved marks' X' q)
+    same-taken : (q : ℕ) → SameAmong G n (taken reserved marks X q) (taken reserved marks' X' q)
     unfolding taken takenByMerit
     same-taken q = record {
       inside = λ p l g.
@@ -88,32 +88,32 @@ module _ (G : ℕ → Bool) (n : ℕ) where
     same-number q = rw (few, whole) (same-count _ _ (same-taken q) n (omega arith))
 
 -- the steps of the gathered are those of their places, and no other place has one
-pub record Alike (G : ℕ → Bool) (n : ℕ) (done done' : Progress) : Type 0 where
+pub record AlikeAmong (G : ℕ → Bool) (n : ℕ) (done done' : Progress) : Type 0 where
   pub inside : (p : ℕ) → p < n → G p ≡ true → getD (done' .given) (count p G) 0 ≡ getD (done .given) p 0
   pub outside : (p : ℕ) → p < n → G p ≡ false → getD (done .given) p 0 ≡ 0
   pub alike : (j : ℕ) → done' .handed j ≡ done .handed j
 
-module _ (G : ℕ → Bool) (n : ℕ) (marks marks' : List ℕ) (whole : length marks ≡ n) (few : length marks' ≡ count n G) (gathers : Gathers G n (λ p. getD marks p 0) marks') (Y Y' : Offers) (offers : (c : Category) → Same G n (λ p. Y p c) (λ p. Y' p c)) where
-  same-considered : (rule : StepRule) (done done' : Progress) → Alike G n done done' → Same G n (considers marks Y rule done) (considers marks' Y' rule done')
+module _ (G : ℕ → Bool) (n : ℕ) (marks marks' : List ℕ) (whole : length marks ≡ n) (few : length marks' ≡ count n G) (gathers : Gathers G n (λ p. getD marks p 0) marks') (Y Y' : Offers) (offers : (c : Category) → SameAmong G n (λ p. Y p c) (λ p. Y' p c)) where
+  same-considered : (rule : StepRule) (done done' : Progress) → AlikeAmong G n done done' → SameAmong G n (considers marks Y rule done) (considers marks' Y' rule done')
   unfolding considers
   same-considered rule done done' a = record {
     inside = λ p l g. rw (offers (rule .category) .inside p l g, a .inside p l g);
     outside = λ p l g. rw (offers (rule .category) .outside p l g);
   }
 
-  same-positions : (k : ℕ) (rule : StepRule) (done done' : Progress) → Alike G n done done' → positionsAt marks' Y' k rule done' ≡ positionsAt marks Y k rule done
+  same-positions : (k : ℕ) (rule : StepRule) (done done' : Progress) → AlikeAmong G n done done' → positionsAt marks' Y' k rule done' ≡ positionsAt marks Y k rule done
   unfolding positionsAt
   same-positions k rule done done' a = rw (a .alike k)
 
-  same-at : (k : ℕ) (rule : StepRule) (done done' : Progress) → Alike G n done done' → Same G n (takenAt marks Y k rule done) (takenAt marks' Y' k rule done')
+  same-at : (k : ℕ) (rule : StepRule) (done done' : Progress) → AlikeAmong G n done done' → SameAmong G n (takenAt marks Y k rule done) (takenAt marks' Y' k rule done')
   unfolding takenAt
   same-at k rule done done' a = rw (same-positions k rule done done' a) (same-taken G n marks marks' whole few gathers (rule .reserved) _ _ (same-considered rule done done' a) _)
 
-  same-vacant : (k : ℕ) (rule : StepRule) (done done' : Progress) → Alike G n done done' → vacantAt marks' Y' k rule done' ≡ vacantAt marks Y k rule done
+  same-vacant : (k : ℕ) (rule : StepRule) (done done' : Progress) → AlikeAmong G n done done' → vacantAt marks' Y' k rule done' ≡ vacantAt marks Y k rule done
   unfolding vacantAt takenAt
   same-vacant k rule done done' a = rw (same-positions k rule done done' a, same-number G n marks marks' whole few gathers (rule .reserved) _ _ (same-considered rule done done' a) (positionsAt marks Y k rule done))
 
-  same-advance : (k : ℕ) (rule : StepRule) (done done' : Progress) → Alike G n done done' → Alike G n (advance marks Y k rule done) (advance marks' Y' k rule done')
+  same-advance : (k : ℕ) (rule : StepRule) (done done' : Progress) → AlikeAmong G n done done' → AlikeAmong G n (advance marks Y k rule done) (advance marks' Y' k rule done')
   unfolding advance
   same-advance k rule done done' a =
       let t = same-at k rule done done' a in
@@ -125,12 +125,12 @@ module _ (G : ℕ → Bool) (n : ℕ) (marks marks' : List ℕ) (whole : length 
         alike = λ j. rw (a .alike j, same-vacant k rule done done' a);
       }
 
-  same-all : (rules : List StepRule) (k : ℕ) (done done' : Progress) → Alike G n done done' → Alike G n (advanceAll marks Y k rules done) (advanceAll marks' Y' k rules done')
+  same-all : (rules : List StepRule) (k : ℕ) (done done' : Progress) → AlikeAmong G n done done' → AlikeAmong G n (advanceAll marks Y k rules done) (advanceAll marks' Y' k rules done')
   unfolding advanceAll
   same-all [] k done done' a = a
   same-all (rule ∷ rules) k done done' a = same-all rules (suc k) _ _ (same-advance k rule done done' a)
 
-  same-start : Alike G n (nothingDone marks Y) (nothingDone marks' Y')
+  same-start : AlikeAmong G n (nothingDone marks Y) (nothingDone marks' Y')
   unfolding nothingDone
   same-start = record {
     inside = λ p l g. getD-zeros (length marks') (count p G) ∙ sym (getD-zeros (length marks) p);
@@ -138,7 +138,7 @@ module _ (G : ℕ → Bool) (n : ℕ) (marks marks' : List ℕ) (whole : length 
     alike = λ j. refl;
   }
 
-  same-choice : (rules : List StepRule) → Alike G n (advanceAll marks Y 1 rules (nothingDone marks Y)) (advanceAll marks' Y' 1 rules (nothingDone marks' Y'))
+  same-choice : (rules : List StepRule) → AlikeAmong G n (advanceAll marks Y 1 rules (nothingDone marks Y)) (advanceAll marks' Y' 1 rules (nothingDone marks' Y'))
   same-choice rules = same-all rules 1 _ _ same-start
 
   -- a place with an offer gets the step that it gets among the gathered

@@ -8,6 +8,7 @@ use lib.Dec.{eqb, ltb}
 use lib.ListN.{length, getD, set}
 use borrow.Author.Tests.{lt-ltb, le-ltb}
 use Rattle.round.specs.Lists.{count, bit}
+use Rattle.choice.specs.Use.{holds}
 use Rattle.choice.specs.Offers.{considersBy}
 use Rattle.choice.specs.Fill.{restAt, seatsAt}
 use Rattle.choice.proofs.Counting.{bit-true, bit-false}
@@ -16,40 +17,40 @@ use Rattle.choice.proofs.Written.{Written, begin, write, keep}
 
 -- what a place holds after the step
 abbrev pub seated : ℕ → ℕ → ℕ → List ℕ → List ℕ → List ℕ → ℕ → ℕ
-seated number wanted free offers placed given q =
-    cond (seatsAt placed (considersBy offers given wanted) free q) number (getD given q 0)
+seated number code free offers placed given q =
+    cond (seatsAt placed (considersBy offers given code) free q) number (getD given q 0)
 
 -- the places below p hold what they hold after the step; of the rest below p as many got it as positions are free
-pub record Filled (number wanted free : ℕ) (offers placed given steps : List ℕ) (filled p : ℕ) : Type 0 where
-  pub number-filled : filled ≡ min free (count p (restAt placed (considersBy offers given wanted)))
-  pub written : Written given steps (seated number wanted free offers placed given) p
+pub record Filled (number code free : ℕ) (offers placed given steps : List ℕ) (filled p : ℕ) : Type 0 where
+  pub number-filled : filled ≡ min free (count p (restAt placed (considersBy offers given code)))
+  pub written : Written given steps (seated number code free offers placed given) p
 
-module _ (number wanted free : ℕ) (offers placed given : List ℕ) where
+module _ (number code free : ℕ) (offers placed given : List ℕ) where
   abbrev X : ℕ → Bool
-  X = considersBy offers given wanted
+  X = considersBy offers given code
 
   abbrev rest : ℕ → Bool
   rest = restAt placed X
 
   -- .. said of what is the same
-  pub filled-by : {l l₁ : List ℕ} {v v₁ : ℕ} (p : ℕ) → l ≡ l₁ → v ≡ v₁ → Filled number wanted free offers placed given l₁ v₁ p
-      → Filled number wanted free offers placed given l v p
+  pub filled-by : {l l₁ : List ℕ} {v v₁ : ℕ} (p : ℕ) → l ≡ l₁ → v ≡ v₁ → Filled number code free offers placed given l₁ v₁ p
+      → Filled number code free offers placed given l v p
   filled-by p el ev k = rw (el, ev) k
 
-  pub none-filled : Filled number wanted free offers placed given given 0 0
+  pub none-filled : Filled number code free offers placed given given 0 0
   none-filled = record { number-filled = omega arith; written = begin given _ }
 
   module _ (steps : List ℕ) (filled p : ℕ) (inside : p < length given)
-      (k : Filled number wanted free offers placed given steps filled p) where
+      (k : Filled number code free offers placed given steps filled p) where
     one-more : (b : ℕ) → bit (rest p) ≡ b → count p rest + b ≡ count (p + 1) rest
     one-more b e = count-more rest p (count p rest) b refl e
 
     -- the test of the steps as they are is that of the steps given
-    pub considered : considersBy offers steps wanted p ≡ X p
-    considered = ap (λ (x : ℕ). eqb (getD offers p 0) wanted && eqb x 0) (k .written .above p (omega arith))
+    pub considered : considersBy offers steps code p ≡ X p
+    considered = ap (λ (x : ℕ). holds (getD offers p 0) code && eqb x 0) (k .written .above p (omega arith))
 
     -- it has a type
-    pub by-type : 0 < getD placed p 0 → Filled number wanted free offers placed given (set steps p number) filled (p + 1)
+    pub by-type : 0 < getD placed p 0 → Filled number code free offers placed given (set steps p number) filled (p + 1)
     by-type l =
         let typed : ltb 0 (getD placed p 0) ≡ true = lt-ltb 0 _ l in
         let out : rest p ≡ false = rw typed (and-false (X p)) in
@@ -63,7 +64,7 @@ module _ (number wanted free : ℕ) (offers placed given : List ℕ) where
       untyped = le-ltb 0 (getD placed p 0) (omega arith)
 
       -- it gets a position by merit
-      pub by-merit : X p ≡ true → filled < free → Filled number wanted free offers placed given (set steps p number) (filled + 1) (p + 1)
+      pub by-merit : X p ≡ true → filled < free → Filled number code free offers placed given (set steps p number) (filled + 1) (p + 1)
       by-merit in-play l =
           let left : rest p ≡ true = rw (untyped, in-play) in
           let room : ltb (count p rest) free ≡ true = lt-ltb (count p rest) free (omega (arith, k .number-filled)) in
@@ -73,7 +74,7 @@ module _ (number wanted free : ℕ) (offers placed given : List ℕ) where
           }
 
       -- it is not considered
-      pub left-out : X p ≡ false → Filled number wanted free offers placed given steps filled (p + 1)
+      pub left-out : X p ≡ false → Filled number code free offers placed given steps filled (p + 1)
       left-out out =
           let gone : rest p ≡ false = rw out in
           record {
@@ -82,7 +83,7 @@ module _ (number wanted free : ℕ) (offers placed given : List ℕ) where
           }
 
       -- no position is free
-      pub no-room : free ≤ filled → Filled number wanted free offers placed given steps filled (p + 1)
+      pub no-room : free ≤ filled → Filled number code free offers placed given steps filled (p + 1)
       no-room z =
           let full : ltb (count p rest) free ≡ false = le-ltb (count p rest) free (omega (arith, k .number-filled)) in
           let nobody : seatsAt placed X free p ≡ false = rw (untyped, full) (and-false (X p && true)) in

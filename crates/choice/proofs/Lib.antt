@@ -12,7 +12,6 @@ pub mod Completion
 pub mod Below
 pub mod Chosen
 pub mod Agreement
-pub mod HeldAndNew
 pub mod Counts
 pub mod Visits
 pub mod Written
@@ -21,4 +20,3 @@ pub mod Fills
 pub mod Steps
 pub mod Choosing
 pub mod Fewer
-pub mod Groups

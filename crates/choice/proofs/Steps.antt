@@ -8,15 +8,13 @@ use lib.Dec.{ltb}
 use lib.ListN.{length, getD, take, drop, replicate, length-replicate}
 use lib.Seq.{take-at, length-take-le}
 use borrow.Author.Tests.{lt-ltb, le-ltb}
-use Rattle.round.specs.Lists.{count, bit, tabulate}
+use Rattle.round.specs.Lists.{count, bit}
 use Rattle.round.specs.declared.entry.Category.{Category}
 use Rattle.round.specs.declared.entry.Category.the-variants.{Open, SC, ST, OBC, EWS}
 use Rattle.round.specs.Category.{codeOf}
-use Rattle.round.specs.Questions.{positionsIn, reservedIn}
-use Rattle.choice.specs.Offers.{considersBy}
 use Rattle.choice.specs.Step.{takenForUse, remaining, takenByMerit, taken}
 use Rattle.choice.specs.Taken.{Took}
-use Rattle.choice.specs.Fill.{restAt, fillsAt, seatsAt, numbered, stepGiven, stepVacant, ownGiven, ownVacant}
+use Rattle.choice.specs.Fill.{restAt, fillsAt, seatsAt, numbered, stepGiven, stepVacant}
 use Rattle.choice.proofs.Counting.{lessOr, count-ext}
 use Rattle.choice.proofs.Tabulate.{tabulate-cong}
 
@@ -128,11 +126,3 @@ code-small SC = omega arith
 code-small ST = omega arith
 code-small OBC = omega arith
 code-small EWS = omega arith
-
--- what a step says at the numbers read from a body
-pub own-done : (types : ℕ) (body : List ℕ) (code : ℕ) (marks offers given steps : List ℕ) {reserved : List ℕ} {number positions vacant : ℕ}
-    → reserved ≡ tabulate types (reservedIn types body code) → number ≡ suc code → positions ≡ positionsIn types body code
-    → (steps ≡ stepGiven number reserved marks (considersBy offers given number) positions given)
-    × (vacant ≡ stepVacant reserved marks (considersBy offers given number) positions)
-    → (steps ≡ ownGiven types body code marks offers given) × (vacant ≡ ownVacant types body code marks offers given)
-own-done types body code marks offers given steps er en ep h = rw (er, en, ep) at h

@@ -1,14 +1,12 @@
 -- The places that a step gives its number to, by the types given on the way down and the positions left (document 01, "One
 -- institute chooses": "Then fill the remaining positions by merit with those left, marked or not.").
-use Prim.Native.Nat.{ℕ, suc, _-_}
+use Prim.Native.Nat.{ℕ, _-_}
 use mathlib.Core.Bool.{Bool, cond, not, _&&_, _||_}
 use mathlib.Core.List.{List}
 use lib.Dec.{ltb}
-use lib.ListN.{length, getD, replicate}
+use lib.ListN.{length, getD}
 use Rattle.round.specs.Lists.{tabulate, count}
-use Rattle.round.specs.Questions.{positionsIn, reservedIn}
 use Rattle.choice.specs.Step.{taken}
-use Rattle.choice.specs.Offers.{considersBy}
 
 -- considered, and given no type
 abbrev pub restAt : List ℕ → (ℕ → Bool) → ℕ → Bool
@@ -32,17 +30,3 @@ stepGiven number reserved marks considered positions given =
 
 abbrev pub stepVacant : List ℕ → List ℕ → (ℕ → Bool) → ℕ → ℕ
 stepVacant reserved marks considered positions = positions - count (length marks) (taken reserved marks considered positions)
-
--- .. at the step of a code, by an institute's body
-abbrev pub ownGiven : ℕ → List ℕ → ℕ → List ℕ → List ℕ → List ℕ → List ℕ
-ownGiven types body code marks offers given =
-    stepGiven (suc code) (tabulate types (reservedIn types body code)) marks (considersBy offers given (suc code)) (positionsIn types body code)
-    given
-
-abbrev pub ownVacant : ℕ → List ℕ → ℕ → List ℕ → List ℕ → List ℕ → ℕ
-ownVacant types body code marks offers given =
-    stepVacant (tabulate types (reservedIn types body code)) marks (considersBy offers given (suc code)) (positionsIn types body code)
-
--- .. at step 6, with the positions that it is handed
-abbrev pub dereservedGiven : ℕ → ℕ → List ℕ → List ℕ → List ℕ → List ℕ
-dereservedGiven types handed marks offers given = stepGiven 6 (replicate types 0) marks (considersBy offers given 1) handed given

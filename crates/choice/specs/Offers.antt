@@ -1,16 +1,24 @@
--- The offers at the places: one byte for each, 0 for none, or one more than the code of the entry's category.
-use Prim.Native.Nat.{ℕ, suc}
+-- The offers at the places: one byte for each, a set of categories, by the bits of their codes.
+use Prim.Native.Nat.{ℕ, _≤_}
+use mathlib.Core.Path.{_≡_}
 use mathlib.Core.Bool.{Bool, _&&_}
 use mathlib.Core.List.{List}
 use lib.Dec.{eqb}
-use lib.ListN.{getD}
+use lib.ListN.{length, getD}
 use Rattle.round.specs.declared.entry.Category.{Category}
 use Rattle.round.specs.Category.{codeOf}
+use Rattle.choice.specs.Use.{holds}
 
 -- place p offers an entry of the category
 abbrev pub offeredBy : List ℕ → ℕ → Category → Bool
-offeredBy offers p category = eqb (getD offers p 0) (suc (codeOf category))
+offeredBy offers p category = holds (getD offers p 0) (codeOf category)
 
--- place p offers by this byte, and has no step yet
+-- place p offers an entry of the code, and has no step yet
 abbrev pub considersBy : List ℕ → List ℕ → ℕ → ℕ → Bool
-considersBy offers given wanted p = eqb (getD offers p 0) wanted && eqb (getD given p 0) 0
+considersBy offers given code p = holds (getD offers p 0) code && eqb (getD given p 0) 0
+
+-- the marks, the offers and the steps of at most 512 places
+pub record Places (marks offers steps : List ℕ) : Type 0 where
+  pub few : length marks ≤ 512
+  pub offers-each : length offers ≡ length marks
+  pub steps-each : length steps ≡ length marks

@@ -1,7 +1,7 @@
 // The positions that are left go by merit to those left.
 use crate::take::considers;
 ghost use mathlib.Core.Path.{_≡_};
-ghost use Prim.Native.Nat.{min};
+ghost use Prim.Native.Nat.{min, _<_};
 ghost use lib.ListN.{length};
 ghost use Rattle.round.specs.Lists.{count};
 ghost use Rattle.choice.specs.Offers.{considersBy};
@@ -12,20 +12,20 @@ pub fn fill(
     free: usize,
     number: u8,
     offers: &[u8],
-    wanted: u8,
+    code: usize,
     placed: &[u8],
     steps: &mut [u8],
 ) -> usize
-    requires { ⌜ (length (now offers) ≡ length (now steps)) × (length (now placed) ≡ length (now steps)) ⌝ }
-    ensures { λ r. ⌜ (now (steps .exit) ≡ numbered (length (now (steps .entry))) number (seatsAt (now (placed .entry)) (considersBy (now (offers .entry)) (now (steps .entry)) wanted) free) (now (steps .entry)))
-        × (r ≡ min free (count (length (now (steps .entry))) (restAt (now (placed .entry)) (considersBy (now (offers .entry)) (now (steps .entry)) wanted)))) ⌝ }
+    requires { ⌜ (code < 5) × (length (now offers) ≡ length (now steps)) × (length (now placed) ≡ length (now steps)) ⌝ }
+    ensures { λ r. ⌜ (now (steps .exit) ≡ numbered (length (now (steps .entry))) number (seatsAt (now (placed .entry)) (considersBy (now (offers .entry)) (now (steps .entry)) code) free) (now (steps .entry)))
+        × (r ≡ min free (count (length (now (steps .entry))) (restAt (now (placed .entry)) (considersBy (now (offers .entry)) (now (steps .entry)) code)))) ⌝ }
 {
     let mut filled = 0;
     for p in 0..steps.len() {
         if placed[p] != 0 {
             steps[p] = number;
         } else if filled < free {
-            if considers(offers, steps, wanted, p) {
+            if considers(offers, steps, code, p) {
                 steps[p] = number;
                 filled += 1;
             }

@@ -1,30 +1,23 @@
-// One institute's choice: steps 1 to 5 in order, then step 6 under policy 1.
+// One institute's choice: the steps of a list of rules, one after the other.
 pub mod fill;
 pub mod placing;
-pub mod positions;
 pub mod step;
 pub mod take;
 
-use positions::reserved_of;
-use round::entry::Category;
-use round::entry::code_of;
-use round::institute::positions_in;
-use round::word::wide;
 use step::step;
 ghost use mathlib.Core.Path.{_≡_};
-ghost use Prim.Native.Nat.{_+_, _*_, _≤_};
+ghost use Prim.Native.Nat.{suc};
 ghost use lib.ListN.{length, replicate};
-ghost use Rattle.round.specs.Category.{codeOf};
-ghost use Rattle.round.specs.Reading.{stepsIn};
+ghost use Rattle.round.specs.Rules.{ruleIn, rulesIn, RuleTable};
 ghost use Rattle.choice.specs.Choice;
-ghost use Rattle.choice.specs.Offers.{offeredBy};
-ghost use Rattle.choice.specs.Fill.{ownGiven, ownVacant, dereservedGiven};
+ghost use Rattle.choice.specs.Offers.{offeredBy, Places};
+ghost use Rattle.choice.specs.Handed.{doneBy, Handing};
 
-// No reserved position of any type.
-fn none_reserved() -> [usize; 8]
-    ensures { λ r. ⌜ r ≡ replicate 8 0 ⌝ }
+// Nothing handed to anybody.
+fn none_handed() -> [usize; 13]
+    ensures { λ r. ⌜ r ≡ replicate 13 0 ⌝ }
 {
-    [0usize; 8]
+    [0usize; 13]
 }
 
 // No step for any place.
@@ -36,63 +29,57 @@ fn clear(steps: &mut [u8])
     }
 }
 
-// Does the step of a category, and returns the positions that it leaves vacant.
-fn own_step(
-    body: &[u8],
+// Does the step of row k of the rules, with the positions handed to it, and hands on those that it leaves vacant.
+fn next_step(
+    rules: &[usize],
     types: usize,
-    category: Category,
+    k: usize,
     marks: &[u8],
     offers: &[u8],
+    handed: &mut [usize],
     steps: &mut [u8],
-) -> usize
-    requires { ⌜ (types ≤ 8) × (length (now body) ≡ 10 + 10 * types) × (length (now marks) ≤ 512) × (length (now offers) ≡ length (now marks)) × (length (now steps) ≡ length (now marks)) ⌝ }
-    ensures { λ r. ⌜ (now (steps .exit) ≡ ownGiven types (now (body .entry)) (codeOf category) (now (marks .entry)) (now (offers .entry)) (now (steps .entry)))
-        × (r ≡ ownVacant types (now (body .entry)) (codeOf category) (now (marks .entry)) (now (offers .entry)) (now (steps .entry))) ⌝ }
+)
+    requires { ⌜ RuleTable types (suc k) (now rules) ⌝ }
+    requires { ⌜ Handing k (now handed) ⌝ }
+    requires { ⌜ Places (now marks) (now offers) (now steps) ⌝ }
+    ensures { λ _. ⌜ (doneBy (now (steps .exit)) (now (handed .exit)) ≡ Choice.advance (now (marks .entry)) (offeredBy (now (offers .entry))) (suc k) (ruleIn types (now (rules .entry)) k) (doneBy (now (steps .entry)) (now (handed .entry))))
+        × Handing (suc k) (now (handed .exit)) ⌝ }
 {
-    let code = code_of(category);
-    let at = wide(code);
-    let mut reserved = none_reserved();
-    reserved_of(body, types, at, &mut reserved[..types]);
-    let positions = positions_in(body, types, at);
-    step(
-        &reserved[..types],
+    let at = k * (3 + types);
+    let code = rules[at];
+    let receiver = rules[at + 1];
+    let positions = rules[at + 2] + handed[k + 1];
+    let first = at + 3;
+    let end = first + types;
+    let number = (k + 1) as u8;
+    let vacant = step(
+        &rules[first..end],
         positions,
-        code + 1,
-        code + 1,
+        code,
+        number,
         marks,
         offers,
         steps,
-    )
+    );
+    handed[receiver] += vacant;
 }
 
-// Does step 6: open entries, as many positions as it is handed, none reserved.
-fn dereserved_step(types: usize, handed: usize, marks: &[u8], offers: &[u8], steps: &mut [u8])
-    requires { ⌜ (types ≤ 8) × (length (now marks) ≤ 512) × (length (now offers) ≡ length (now marks)) × (length (now steps) ≡ length (now marks)) ⌝ }
-    ensures { λ _. ⌜ now (steps .exit) ≡ dereservedGiven types handed (now (marks .entry)) (now (offers .entry)) (now (steps .entry)) ⌝ }
-{
-    let reserved = none_reserved();
-    step(&reserved[..types], handed, 1, 6, marks, offers, steps);
-}
-
-// The step at which each place is taken, 0 for none, from the institute's body, the marks and the offers at the places.
+// The step at which each place is taken, 0 for none, from so many rows of a table of rules, the marks and the offers at the places.
 pub fn choose(
-    body: &[u8],
+    rules: &[usize],
     types: usize,
-    policy: usize,
+    count: usize,
     marks: &[u8],
     offers: &[u8],
     steps: &mut [u8],
 )
-    requires { ⌜ (types ≤ 8) × (length (now body) ≡ 10 + 10 * types) × (length (now marks) ≤ 512) × (length (now offers) ≡ length (now marks)) × (length (now steps) ≡ length (now marks)) ⌝ }
-    ensures { λ _. ⌜ now (steps .exit) ≡ Choice.choose (now (marks .entry)) (offeredBy (now (offers .entry))) (stepsIn types policy (now (body .entry))) ⌝ }
+    requires { ⌜ RuleTable types count (now rules) ⌝ }
+    requires { ⌜ Places (now marks) (now offers) (now steps) ⌝ }
+    ensures { λ _. ⌜ now (steps .exit) ≡ Choice.choose (now (marks .entry)) (offeredBy (now (offers .entry))) (rulesIn types count (now (rules .entry))) ⌝ }
 {
     clear(steps);
-    own_step(body, types, Category::Open, marks, offers, steps);
-    own_step(body, types, Category::SC, marks, offers, steps);
-    own_step(body, types, Category::ST, marks, offers, steps);
-    let vacant = own_step(body, types, Category::OBC, marks, offers, steps);
-    own_step(body, types, Category::EWS, marks, offers, steps);
-    if policy == 1 {
-        dereserved_step(types, vacant, marks, offers, steps);
+    let mut handed = none_handed();
+    for k in 0..count {
+        next_step(rules, types, k, marks, offers, &mut handed, steps);
     }
 }

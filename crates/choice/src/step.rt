@@ -2,9 +2,9 @@
 use crate::fill::fill;
 use crate::take::take_for_use;
 ghost use mathlib.Core.Path.{_≡_};
-ghost use Prim.Native.Nat.{_-_, _≤_};
+ghost use Prim.Native.Nat.{_-_, _≤_, _<_};
 ghost use lib.ListN.{length, replicate};
-ghost use Rattle.choice.specs.Offers.{considersBy};
+ghost use Rattle.choice.specs.Offers.{considersBy, Places};
 ghost use Rattle.choice.specs.Fill.{stepGiven, stepVacant};
 
 // No type for any place.
@@ -29,20 +29,21 @@ fn left_of(positions: usize, used: usize) -> usize
 pub fn step(
     reserved: &[usize],
     positions: usize,
-    wanted: u8,
+    code: usize,
     number: u8,
     marks: &[u8],
     offers: &[u8],
     steps: &mut [u8],
 ) -> usize
-    requires { ⌜ (length (now reserved) ≤ 8) × (length (now marks) ≤ 512) × (length (now offers) ≡ length (now marks)) × (length (now steps) ≡ length (now marks)) ⌝ }
-    ensures { λ r. ⌜ (now (steps .exit) ≡ stepGiven number (now (reserved .entry)) (now (marks .entry)) (considersBy (now (offers .entry)) (now (steps .entry)) wanted) positions (now (steps .entry)))
-        × (r ≡ stepVacant (now (reserved .entry)) (now (marks .entry)) (considersBy (now (offers .entry)) (now (steps .entry)) wanted) positions) ⌝ }
+    requires { ⌜ (length (now reserved) ≤ 8) × (code < 5) ⌝ }
+    requires { ⌜ Places (now marks) (now offers) (now steps) ⌝ }
+    ensures { λ r. ⌜ (now (steps .exit) ≡ stepGiven number (now (reserved .entry)) (now (marks .entry)) (considersBy (now (offers .entry)) (now (steps .entry)) code) positions (now (steps .entry)))
+        × (r ≡ stepVacant (now (reserved .entry)) (now (marks .entry)) (considersBy (now (offers .entry)) (now (steps .entry)) code) positions) ⌝ }
 {
     let n = marks.len();
     let mut types = no_types();
-    let used = take_for_use(reserved, marks, offers, steps, wanted, &mut types[..n]);
+    let used = take_for_use(reserved, marks, offers, steps, code, &mut types[..n]);
     let free = left_of(positions, used);
-    let filled = fill(free, number, offers, wanted, &types[..n], steps);
+    let filled = fill(free, number, offers, code, &types[..n], steps);
     left_of(free, filled)
 }

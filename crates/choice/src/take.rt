@@ -1,4 +1,5 @@
 // Down the places: who raises the use of those taken is taken.
+use crate::placing::has_type;
 use crate::placing::place;
 ghost use mathlib.Core.Path.{_≡_};
 ghost use Prim.Native.Nat.{_≤_, _<_};
@@ -7,12 +8,12 @@ ghost use Rattle.choice.specs.Offers.{considersBy};
 ghost use Rattle.choice.specs.Search.{Searching};
 ghost use Rattle.choice.specs.Taken.{Attempted, Took};
 
-// Whether place p offers by this byte and has no step yet.
-pub fn considers(offers: &[u8], steps: &[u8], wanted: u8, p: usize) -> bool
-    requires { ⌜ (p < length (now offers)) × (p < length (now steps)) ⌝ }
-    ensures { λ r. ⌜ r ≡ considersBy (now (offers .entry)) (now (steps .entry)) wanted p ⌝ }
+// Whether place p offers an entry of the code and has no step yet.
+pub fn considers(offers: &[u8], steps: &[u8], code: usize, p: usize) -> bool
+    requires { ⌜ (code < 5) × (p < length (now offers)) × (p < length (now steps)) ⌝ }
+    ensures { λ r. ⌜ r ≡ considersBy (now (offers .entry)) (now (steps .entry)) code p ⌝ }
 {
-    offers[p] == wanted && steps[p] == 0
+    has_type(offers[p], code) && steps[p] == 0
 }
 
 // Copies the bytes of one list into another.
@@ -52,16 +53,16 @@ pub fn take_for_use(
     marks: &[u8],
     offers: &[u8],
     steps: &[u8],
-    wanted: u8,
+    code: usize,
     placed: &mut [u8],
 ) -> usize
-    requires { ⌜ (length (now reserved) ≤ 8) × (length (now offers) ≡ length (now marks)) × (length (now steps) ≡ length (now marks)) × (now placed ≡ replicate (length (now marks)) 0) ⌝ }
-    ensures { λ r. ⌜ Took (now (reserved .entry)) (now (marks .entry)) (now (placed .exit)) (considersBy (now (offers .entry)) (now (steps .entry)) wanted) r ⌝ }
+    requires { ⌜ (length (now reserved) ≤ 8) × (code < 5) × (length (now offers) ≡ length (now marks)) × (length (now steps) ≡ length (now marks)) × (now placed ≡ replicate (length (now marks)) 0) ⌝ }
+    ensures { λ r. ⌜ Took (now (reserved .entry)) (now (marks .entry)) (now (placed .exit)) (considersBy (now (offers .entry)) (now (steps .entry)) code) r ⌝ }
 {
     let mut exhausted = [0u8; 8];
     let mut n = 0;
     for p in 0..marks.len() {
-        if considers(offers, steps, wanted, p) {
+        if considers(offers, steps, code, p) {
             if take_one(reserved, marks, placed, &mut exhausted, p) {
                 n += 1;
             }

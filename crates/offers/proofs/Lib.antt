@@ -1,3 +1,3 @@
 pub mod Market
 pub mod Rounds
-pub mod Turns
+pub mod Sweeps

@@ -3,12 +3,12 @@ pub mod Tests
 pub mod Sums
 pub mod DoubleSums
 pub mod Laws
-pub mod Together
 pub mod Update
 pub mod Rows
 pub mod Reached
 pub mod Least
 pub mod Alone
+pub mod Sweep
 pub mod AnyOrder
 pub mod Between
 pub mod Final

@@ -10,10 +10,12 @@ pub mod Running
 pub mod Seats
 pub mod Counted
 pub mod Process
+pub mod AtEnd
 pub mod Standing
 pub mod Given
 pub mod StableRound
 pub mod TruthfulRound
-pub mod Turn
 pub mod Bounds
 pub mod AnyOrder
+pub mod Last
+pub mod Sweeps

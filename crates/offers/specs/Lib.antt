@@ -1,8 +1,8 @@
 pub mod Rows
 pub mod Offers
 pub mod Process
+pub mod Ended
 pub mod Standing
 pub mod Stable
 pub mod Held
-pub mod Turns
-pub mod Tables
+pub mod Sweeps

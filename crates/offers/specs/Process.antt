@@ -30,11 +30,11 @@ module _ (r : Round) where
 
   -- the offers made to institute j: the tried entries; an entry not in the row has the row's length for its rank and is never tried
   unfoldable pub madeTo : List ℕ → ℕ → OfferSet
-  madeTo tried j i c = ltb (rankIn (rowAt r i) (entryOf j c)) (getD tried i 0)
+  madeTo state j i c = ltb (rankIn (rowAt r i) (entryOf j c)) (getD state i 0)
 
   -- the steps that each institute's merit list is given, each institute choosing from all offers ever made to it
   unfoldable pub chosen : List ℕ → List (List ℕ)
-  chosen tried = tabulate instituteCount (λ j. stepsOn r j (madeTo tried j))
+  chosen state = tabulate instituteCount (λ j. stepsOn r j (madeTo state j))
 
   -- the seat of candidate i by these: the institute that holds i, and the step; no two institutes ever hold one candidate
   unfoldable pub seatBy : List (List ℕ) → ℕ → Seat
@@ -44,22 +44,22 @@ module _ (r : Round) where
       cond (ltb holder instituteCount) (record { institute = suc holder; step = stepBy holder }) noSeat
 
   unfoldable pub seatsAfter : List ℕ → List Seat
-  seatsAfter tried = let steps = chosen tried in tabulate candidateCount (seatBy steps)
+  seatsAfter state = let steps = chosen state in tabulate candidateCount (seatBy steps)
 
   -- held by no institute, and with an untried entry
   unfoldable pub mayOffer : List ℕ → List Seat → ℕ → Bool
-  mayOffer tried seats i = isNone (getD seats i noSeat) && ltb (getD tried i 0) (length (rowAt r i))
+  mayOffer state list i = isNone (getD list i noSeat) && ltb (getD state i 0) (length (rowAt r i))
 
   -- one turn: the lowest-numbered candidate who may offers the best untried entry
   unfoldable pub turn : List ℕ → List ℕ
-  turn tried =
-      let seats = seatsAfter tried in
-      let i : ℕ = first candidateCount (mayOffer tried seats) in
-      cond (ltb i candidateCount) (set tried i (suc (getD tried i 0))) tried
+  turn state =
+      let list = seatsAfter state in
+      let i : ℕ = first candidateCount (mayOffer state list) in
+      cond (ltb i candidateCount) (set state i (suc (getD state i 0))) state
 
   unfoldable pub turns : ℕ → List ℕ → List ℕ
-  turns zero tried = tried
-  turns (suc n) tried = turns n (turn tried)
+  turns zero state = state
+  turns (suc n) state = turns n (turn state)
 
   abbrev pub entryTotal : ℕ
   entryTotal = sum (map (λ c. length (c .row)) (r .candidates))

@@ -1,8 +1,8 @@
 // The offers of a round.
+mod choosing;
 pub mod clearing;
 mod gather;
+mod offering;
 pub mod process;
-mod rival;
 mod scatter;
 pub mod table;
-mod turn;

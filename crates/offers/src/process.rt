@@ -1,89 +1,77 @@
-// The process: while some candidate is held by no institute and has an untried entry, the lowest-numbered such candidate has a turn.
+// The process, in sweeps: everybody who may offer offers the best untried entry, each once; then each institute that got an offer chooses
+// once, from the entries tried last that name it; until nobody may offer. Document 01 lets the lowest-numbered candidate go first, and each
+// institute choose from all offers ever made to it. Whoever may offer still may after others have offered, so a sweep is a run of single
+// offers in number order (`Rounds/Sweeps`), and offers in any order end alike (`Rounds/AnyOrder`); the entries tried last give the same
+// steps as all offers (`Rounds/Last`).
+use crate::choosing::choose_all;
 use crate::clearing::clear;
+use crate::offering::offer_all;
+use crate::table::none_fresh;
 use crate::table::zeros;
-use crate::turn::turn;
-use round::access::row_length;
 use round::head::Head;
-use round::word::wide;
-ghost use Prim.Native.Nat.{_<_};
 ghost use mathlib.Core.Path.{_≡_};
 ghost use lib.ListN.{length, replicate};
-ghost use Rattle.round.specs.Lists.{first};
-ghost use Rattle.round.specs.Records.{headOf};
 ghost use Rattle.round.specs.Reading.{roundOf};
-ghost use Rattle.round.specs.Refusal.{passes, verdict};
-ghost use Rattle.round.specs.Outcome.{CandidateStarts};
-ghost use Rattle.round.specs.Access.{CandidateKnown};
-ghost use Rattle.offers.specs.Process.{candidateCount, offersMade, seats};
+ghost use Rattle.offers.specs.Process.{offersMade, seats};
 ghost use Rattle.offers.specs.Held.{AtHand, HeldIn};
-ghost use Rattle.offers.specs.Turns.{mayTry, NobodyBelow};
+ghost use Rattle.offers.specs.Sweeps.{settled};
 
-// Whether candidate i, from 0, is held by no institute and has an untried entry.
-fn may_try(file: &[u8], candidates: &[usize], tried: &[u8], holders: &[u8], i: usize) -> bool
-    requires { ⌜ CandidateKnown (now file) (now candidates) i ⌝ }
-    requires { ⌜ (i < length (now tried)) × (i < length (now holders)) ⌝ }
-    ensures { λ r. ⌜ r ≡ mayTry (roundOf (now (file .entry))) (now (tried .entry)) (now (holders .entry)) i ⌝ }
-{
-    if holders[i] != 0 {
-        return false;
-    }
-    wide(tried[i]) < row_length(file, candidates, i)
-}
-
-// The lowest-numbered candidate, from 0, who has a turn, where nobody below `from` has; the number of candidates where nobody has.
-fn next_candidate(
-    file: &[u8],
-    candidates: &[usize],
-    tried: &[u8],
-    holders: &[u8],
-    from: usize,
-) -> usize
-    requires { ⌜ verdict (now file) ≡ passes ⌝ }
-    requires { ⌜ CandidateStarts (now file) (now candidates) ⌝ }
-    requires { ⌜ (length (now tried) ≡ headOf (now file) .candidates) × (length (now holders) ≡ headOf (now file) .candidates) ⌝ }
-    requires { ⌜ NobodyBelow (roundOf (now file)) (now tried) (now holders) from ⌝ }
-    ensures { λ r. ⌜ r ≡ first (candidateCount (roundOf (now (file .entry)))) (mayTry (roundOf (now (file .entry))) (now (tried .entry)) (now (holders .entry))) ⌝ }
-{
-    let count = tried.len();
-    for i in from..count {
-        if may_try(file, candidates, tried, holders, i) {
-            return i;
-        }
-    }
-    count
-}
-
-// Turns from the state in which nothing is tried and nobody held, to the end; returns how many.
-fn take_turns(
+// Sweeps from the state in which nothing is tried and nobody held, to the end; returns how many offers were made.
+fn sweep_all(
     file: &[u8],
     h: Head,
     candidates: &[usize],
     merits: &[usize],
     tried: &mut [u8],
-    holders: &mut [u8],
+    asked: &mut [u8],
+    wanted: &mut [u8],
     steps: &mut [u8],
 ) -> usize
     requires { ⌜ AtHand (now file) h (now candidates) (now merits) ⌝ }
     requires { ⌜ (now tried ≡ replicate (h .candidates) 0)
-        × (now holders ≡ replicate (h .candidates) 0)
-        × (now steps ≡ replicate (h .candidates) 0) ⌝ }
+        × (now asked ≡ replicate (h .candidates) 0)
+        × (now steps ≡ replicate (h .candidates) 0)
+        × (length (now wanted) ≡ h .candidates) ⌝ }
     ensures { λ r. ⌜ (r ≡ offersMade (roundOf (now (file .entry))))
-        × HeldIn (seats (roundOf (now (file .entry)))) (now (holders .exit)) (now (steps .exit)) ⌝ }
+        × (length (now (asked .exit)) ≡ h .candidates)
+        × (length (now (steps .exit)) ≡ h .candidates)
+        × HeldIn (seats (roundOf (now (file .entry)))) (settled (now (asked .exit)) (now (steps .exit))) (now (steps .exit)) ⌝ }
 {
-    let n = h.candidates;
+    let mut fresh = none_fresh();
     let mut count: usize = 0;
-    let mut from: usize = 0;
     loop {
-        let i = next_candidate(file, candidates, tried, holders, from);
-        if n <= i {
+        let made = offer_all(file, candidates, steps, tried, asked, wanted, &mut fresh);
+        if made == 0 {
             return count;
         }
-        from = turn(file, h, candidates, merits, i, tried, holders, steps);
-        count += 1;
+        choose_all(
+            file,
+            h,
+            candidates,
+            merits,
+            asked,
+            wanted,
+            &mut fresh,
+            steps,
+        );
+        count += made;
     }
 }
 
-// The offers of the process of an accepted file: returns their number, and leaves the holder and the step of each candidate, 0 and 0 for none.
+// Whoever has no step has no holder.
+fn settle(steps: &[u8], holders: &mut [u8])
+    requires { ⌜ length (now holders) ≡ length (now steps) ⌝ }
+    ensures { λ _. ⌜ now (holders .exit) ≡ settled (now (holders .entry)) (now (steps .entry)) ⌝ }
+{
+    for i in 0..steps.len() {
+        if steps[i] == 0 {
+            holders[i] = 0;
+        }
+    }
+}
+
+// The offers of the process of an accepted file: returns their number, at most that of the entries, and leaves the holder and the step of
+// each candidate, 0 and 0 for none.
 pub fn run_offers(
     file: &[u8],
     h: Head,
@@ -101,5 +89,17 @@ pub fn run_offers(
     clear(holders, n);
     clear(steps, n);
     let mut tried = zeros();
-    take_turns(file, h, candidates, merits, &mut tried[..n], holders, steps)
+    let mut wanted = zeros();
+    let count = sweep_all(
+        file,
+        h,
+        candidates,
+        merits,
+        &mut tried[..n],
+        holders,
+        &mut wanted[..n],
+        steps,
+    );
+    settle(steps, holders);
+    count
 }

@@ -17,6 +17,20 @@ pub fn nobody() -> [u16; 512]
     [0u16; 512]
 }
 
+// A table with a number for each institute.
+pub fn none_fresh() -> [u8; 32]
+    ensures { λ r. ⌜ length r ≡ 32 ⌝ }
+{
+    [0; 32]
+}
+
+// Room for the step rules of an institute.
+pub fn no_rules() -> [usize; 66]
+    ensures { λ r. ⌜ length r ≡ 66 ⌝ }
+{
+    [0; 66]
+}
+
 // A small number as a byte.
 pub fn narrow(x: usize) -> u8
     requires { ⌜ x < 256 ⌝ }

@@ -3,6 +3,7 @@
 use choice::choose;
 use round::reader::Reading;
 use round::reader::read_round;
+use round::rules::rules_of;
 ghost use mathlib.Core.Path.{_≡_};
 ghost use lib.ListN.{length};
 ghost use Rattle.round.specs.Refusal.{verdict};
@@ -18,6 +19,12 @@ fn merit_table() -> [usize; 32]
     ensures { λ r. ⌜ length r ≡ 32 ⌝ }
 {
     [0; 32]
+}
+
+fn rule_table() -> [usize; 66]
+    ensures { λ r. ⌜ length r ≡ 66 ⌝ }
+{
+    [0; 66]
 }
 
 // The number of the first of questions 1 to 13 that is answered no, and its byte; 0 and 0 where each is answered yes.
@@ -73,6 +80,8 @@ pub extern "C" fn tazbilk_choose(
         ≡ stepsAfter (now (body .entry)) types policy (now (marks .entry)) (now (offers .entry)) (now (steps .entry)) ⌝ }
 {
     if fits(types, body.len(), marks.len(), offers.len(), steps.len()) {
-        choose(body, types, policy, marks, offers, steps);
+        let mut rules = rule_table();
+        let count = rules_of(body, types, policy, &mut rules);
+        choose(&rules, types, count, marks, offers, steps);
     }
 }

@@ -8,10 +8,11 @@ use native.Mathlib.Omega.{arith}
 use borrow.Author.Tests.{leb-true, eqb-true, eqb-false}
 use lib.Dec.{leb, eqb}
 use lib.ListN.{length, getD, drop, length-take, length-drop}
+use Rattle.round.specs.declared.head.Head.{Head as CodeHead}
 use Rattle.round.specs.Lists.{sumOf}
 use Rattle.round.specs.Records.{Head, headIn, kindAt, lengthAt, bodyAt}
 use Rattle.round.specs.Questions.{within, even, lengthAllowed, firstNo, questionsAt, kindQuestions, headQuestions, instituteQuestions, candidateQuestions, meritQuestions, positionsIn, reservedIn, entryCount, instituteIn, codeIn, meritCount, meritIn}
-use Rattle.round.specs.Read.{InRange}
+use Rattle.round.specs.Read.{asHead, InRange, InstituteBody, CandidateBody}
 use Rattle.round.proofs.Words.{and-fst, and-snd, and-no, or-cases, all-at, apart-at}
 use Rattle.round.proofs.Passed.{yes}
 
@@ -151,12 +152,14 @@ length-candidate h len e =
       by-two = eqb-true (len % 2) 0 (and-snd (within 2 34 len) (even len) e);
     }
 
-pub record LengthMerit (candidates len : ℕ) : Type 0 where
-  pub most : len ≤ 2 * candidates
-  pub by-two : len % 2 ≡ 0
+-- a body of an allowed length is as long as the questions of its kind ask
+pub head-long : (h : Head) (kind len : ℕ) → kind ≡ 1 → lengthAllowed h kind len ≡ true → 8 ≤ len
+head-long h kind len e a = omega (arith, length-head h len (rw e at a))
 
-pub length-merit : (h : Head) (len : ℕ) → lengthAllowed h 4 len ≡ true → LengthMerit (h .candidates) len
-length-merit h len e = record {
-  most = leb-true len (2 * h .candidates) (and-fst _ (even len) e);
-  by-two = eqb-true (len % 2) 0 (and-snd (leb len (2 * h .candidates)) (even len) e);
-}
+pub institute-long : (k : CodeHead) (kind : ℕ) (body : List ℕ) → InRange (asHead k) → kind ≡ 2 → lengthAllowed (asHead k) kind (length body) ≡ true → InstituteBody (k .types) body
+institute-long k kind body y e a = record { types-most = y .types-most; long = length-institute (asHead k) (length body) (rw e at a) }
+
+pub candidate-long : (h : Head) (kind : ℕ) (body : List ℕ) → kind ≡ 3 → lengthAllowed h kind (length body) ≡ true → CandidateBody body
+candidate-long h kind body e a =
+    let fits = length-candidate h (length body) (rw e at a) in
+    record { least = fits .least; most = fits .most }

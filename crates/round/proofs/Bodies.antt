@@ -59,10 +59,6 @@ module _ (file starts : List ℕ) (j : ℕ) (y : MeritKnown file starts j) where
 
 -- what a candidate's body has at each place
 module _ (file : List ℕ) (i : ℕ) {body : List ℕ} (r : CandidateRead file i body) where
-  pub category-of-body : categoryOf (getD body 0 0) ≡ candidateOf file i .category
-  unfolding candidateIn
-  category-of-body = ap (λ (c : Candidate). c .category) (r .candidate-of)
-
   pub marks-of-body : getD body 1 0 ≡ candidateOf file i .marks
   unfolding candidateIn
   marks-of-body = ap (λ (c : Candidate). c .marks) (r .candidate-of)
@@ -88,8 +84,9 @@ module _ (file : List ℕ) (j : ℕ) {body : List ℕ} (r : MeritRead file j bod
   pub list-length : length (instituteOf file j .merit) ≡ meritCount body
   list-length = sym (ap length (r .merit-of)) ∙ length-tabulate 0 (meritCount body) (meritIn body)
 
-  pub list-place : (p : ℕ) → p < meritCount body → meritAt (instituteOf file j) p ≡ meritIn body p
-  list-place p l = sym (ap (λ (s : List ℕ). getD s p 0) (r .merit-of)) ∙ tabulate-at (meritCount body) (meritIn body) 0 p l
+  pub list-place : (p : ℕ) {number : ℕ} → p < length (instituteOf file j .merit) → number ≡ meritIn body p → number ≡ meritAt (instituteOf file j) p
+  list-place p l e =
+      e ∙ (sym (tabulate-at (meritCount body) (meritIn body) 0 p (omega (arith, list-length))) ∙ ap (λ (s : List ℕ). getD s p 0) (r .merit-of))
 
 -- institutes have one length
 module _ (file : List ℕ) (p : Passed file) where

@@ -1,10 +1,10 @@
 -- The record that is due at a byte, when its lead bytes and its length are as due, and what its questions come to.
-use Prim.Native.Nat.{ℕ, zero, suc, _+_, _-_, _≤_}
+use Prim.Native.Nat.{ℕ, zero, suc, _+_, _-_, _≤_, _<_}
 use mathlib.Core.Path.{_≡_, refl, sym, ap, _∙_}
-use mathlib.Core.Bool.{Bool, true, false, cond}
+use mathlib.Core.Bool.{Bool, true, false, not, cond}
 use mathlib.Core.List.{List, [], _∷_, _++_}
 use native.Mathlib.Omega.{arith}
-use borrow.Author.Tests.{leb-true, eq-eqb, ne-eqb}
+use borrow.Author.Tests.{leb-true, eq-eqb, ne-eqb, le-leb, lt-leb, not-true, not-false}
 use lib.Dec.{leb, eqb}
 use lib.ListN.{length, take, drop}
 use Rattle.round.specs.declared.records.Part.{Part}
@@ -28,6 +28,38 @@ part-zero n start end e = rw (eq-eqb n 0 e)
 part-some : (n start end : ℕ) → (n ≡ 0 → ⊥) → partBy n start end ≡ Refused n start
 part-some n start end e = rw (ne-eqb n 0 e)
 
+-- the answer, by the first question answered no
+pub refused-by : (number n start end : ℕ) → number ≡ n → eqb number 0 ≡ false → Refused number start ≡ partBy n start end
+refused-by number n start end e d = rw (← e, d)
+
+pub lawful-by : (n start body len read : ℕ) → read ≡ len → 0 ≡ n → Lawful (body + read) ≡ partBy n start (body + len)
+lawful-by n start body len read d e = rw (← e, d)
+
+-- questions 1 to 4 by what code has read: at is the byte, n the length of the file
+pub lead-no : {at n : ℕ} → at ≤ n → n - at < 4 → leb (at + 4) n ≡ false
+lead-no {at} {n} l m = lt-leb (at + 4) n (omega arith)
+
+pub lead-there : {at n : ℕ} → at ≤ n → 4 ≤ n - at → leb (at + 4) n ≡ true
+lead-there {at} {n} l m = le-leb (at + 4) n (omega arith)
+
+pub kind-no : {k kind read : ℕ} → read ≡ k → (read ≡ kind → ⊥) → eqb k kind ≡ false
+kind-no e d = ne-eqb _ _ (λ q. d (e ∙ q))
+
+pub kind-due : {k kind read : ℕ} → read ≡ k → read ≡ kind → eqb k kind ≡ true
+kind-due e d = eq-eqb _ _ (sym e ∙ d)
+
+pub allowed-no : (h : Head) (kind : ℕ) {len read : ℕ} {r : Bool} → read ≡ len → r ≡ lengthAllowed h kind read → not r ≡ true → lengthAllowed h kind len ≡ false
+allowed-no h kind e f d = rw e at (sym f ∙ not-true _ d)
+
+pub allowed-yes : (h : Head) (kind : ℕ) {len read : ℕ} {r : Bool} → read ≡ len → r ≡ lengthAllowed h kind read → not r ≡ false → lengthAllowed h kind len ≡ true
+allowed-yes h kind e f d = rw e at (sym f ∙ not-false _ d)
+
+pub body-no : {at n len read : ℕ} → read ≡ len → at ≤ n → 4 ≤ n - at → n - (at + 4) < read → leb (at + 4 + len) n ≡ false
+body-no {at} {n} {len} e l m k = lt-leb (at + 4 + len) n (omega arith)
+
+pub body-there : {at n len read : ℕ} → read ≡ len → at ≤ n → 4 ≤ n - at → read ≤ n - (at + 4) → leb (at + 4 + len) n ≡ true
+body-there {at} {n} {len} e l m k = le-leb (at + 4 + len) n (omega arith)
+
 -- by the answer, the first question answered no
 pub part-lawful : (n start end e : ℕ) → partBy n start end ≡ Lawful e → (n ≡ 0) × (end ≡ e)
 part-lawful zero start end e p = (refl, same-end p)
@@ -45,6 +77,12 @@ first-more (q ∷ qs) rs n = go (q .answer) (first-more qs rs) n
         → cond b (firstNo (qs ++ rs)) (q .number) ≡ cond b (firstNo qs) (q .number)
     go true ih n = ih n
     go false ih n = refl
+
+-- the part of a file behind the lead bytes, as long as code has read them to say
+pub body-part : (file : List ℕ) (start : ℕ) {len : ℕ} → len ≡ lengthAt file start → take (start + 4 + len - (start + 4)) (drop (start + 4) file) ≡ bodyAt file start
+body-part file start {len} e =
+    let same : start + 4 + len - (start + 4) ≡ lengthAt file start = omega arith in
+    ap (λ (n : ℕ). take n (drop (start + 4) file)) same
 
 -- questions 1 to 4 answered yes
 four-yes : (a b c d : Bool) (rest : ℕ) → cond a (cond b (cond c (cond d rest 4) 3) 2) 1 ≡ 0 → (a ≡ true) × (b ≡ true) × (c ≡ true) × (d ≡ true)
@@ -81,6 +119,12 @@ module _ (file : List ℕ) (h : Head) (kind start : ℕ) where
     found {end} e =
         let p = part-lawful _ start (nextAt file start) end (sym got ∙ e) in
         rw (p .1) at (lead-found (p .0))
+
+    pub found-behind : {end : ℕ} → r ≡ Lawful end → start + 4 ≤ end
+    found-behind e = omega (arith, found e .ends)
+
+    pub found-inside : {end : ℕ} → r ≡ Lawful end → end ≤ length file
+    found-inside e = found e .whole
 
     -- a refusal by the first four is one by all
     pub found-refused : {n o : ℕ} → r ≡ Refused n o → r ≡ partBy (firstNo (questionsAt file h kind start)) start (nextAt file start)

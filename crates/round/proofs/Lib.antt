@@ -9,4 +9,4 @@ pub mod Rest
 pub mod Prefix
 pub mod Bodies
 pub mod Codes
-pub mod Accepted
+pub mod Rows

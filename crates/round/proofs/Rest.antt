@@ -17,7 +17,7 @@ use Rattle.round.specs.Questions.{firstNo, questionsAt}
 use Rattle.round.specs.Refusal.{Verdict, passes, refused, verdictFrom, verdict}
 use Rattle.round.specs.Read.{asHead, InRange}
 use Rattle.round.specs.Parts.{partBy, onward, RunPart, RunRead}
-use Rattle.round.specs.Outcome.{verdictOf, handedUp, RestRead, RoundRead}
+use Rattle.round.specs.Outcome.{verdictOf, refusalOf, RestRead, RoundRead}
 use Rattle.round.proofs.Words.{append-none}
 use Rattle.round.proofs.Answers as answers
 use Rattle.round.proofs.Found.{part-lawful}
@@ -26,10 +26,11 @@ use Rattle.round.proofs.Found.{part-lawful}
 not-read : {A : Type 0} {r : Reading} {n o : ℕ} (k : CodeHead) → r ≡ Refused n o → r ≡ Read k → A
 not-read {A} {r} {n} {o} k e d = let z : _≡_ {A = ℕ} 0 1 = cc in absurd (omega arith)
 
-module _ (file : List ℕ) (k : CodeHead) (from : ℕ) where
-  h : Head
-  h = asHead k
+-- a lawful part ends within the file
+pub part-inside : {file : List ℕ} {h : Head} {kind count from end : ℕ} {r : Part} → RunPart file h kind count from r → r ≡ Lawful end → end ≤ length file
+part-inside R e = R .inside _ e
 
+module _ (file : List ℕ) (k : CodeHead) (from : ℕ) where
   lists : List ℕ
   lists = replicate (k .institutes) 4
 
@@ -55,11 +56,11 @@ module _ (file : List ℕ) (k : CodeHead) (from : ℕ) where
     merits-kept = λ j i q. not-read j e q;
   }
 
-  up : {r : Reading} {got : Part} {n o : ℕ} → r ≡ handedUp got → got ≡ PartRefused n o → r ≡ Refused n o
-  up e d = e ∙ ap handedUp d
+  up : {r : Reading} {got : Part} {n o : ℕ} → r ≡ refusalOf got → got ≡ PartRefused n o → r ≡ Refused n o
+  up e d = e ∙ ap refusalOf d
 
   module _ {r₁ : Part} (R₁ : RunPart file (asHead k) 2 (k .institutes) from r₁) where
-    pub institutes-refused : {r : Reading} {n o : ℕ} (c₀ c m₀ m : List ℕ) → r ≡ handedUp r₁ → r₁ ≡ PartRefused n o → RestRead file (asHead k) from r c₀ c m₀ m
+    pub institutes-refused : {r : Reading} {n o : ℕ} (c₀ c m₀ m : List ℕ) → r ≡ refusalOf r₁ → r₁ ≡ PartRefused n o → RestRead file (asHead k) from r c₀ c m₀ m
     unfolding rows lists
     institutes-refused c₀ c m₀ m e d = rest-refused c₀ c m₀ m (up e d) (handed-part rows _ d (R₁ .verdict-of rows))
 
@@ -68,7 +69,7 @@ module _ (file : List ℕ) (k : CodeHead) (from : ℕ) where
       unfolding rows lists
       rows-verdict = R₂ .part .verdict-of lists ∙ after-part rows _ l₁ (R₁ .verdict-of rows)
 
-      pub rows-refused : {r : Reading} {n o : ℕ} (m₀ m : List ℕ) → r ≡ handedUp r₂ → r₂ ≡ PartRefused n o → RestRead file (asHead k) from r c₀ c m₀ m
+      pub rows-refused : {r : Reading} {n o : ℕ} (m₀ m : List ℕ) → r ≡ refusalOf r₂ → r₂ ≡ PartRefused n o → RestRead file (asHead k) from r c₀ c m₀ m
       rows-refused m₀ m e d = rest-refused c₀ c m₀ m (up e d) (handed-part lists _ d rows-verdict)
 
       module _ {e₂ : ℕ} (l₂ : r₂ ≡ Lawful e₂) {r₃ : Part} {m₀ m : List ℕ} (R₃ : RunRead file (asHead k) 4 (k .institutes) e₂ m₀ r₃ m) where
@@ -78,7 +79,7 @@ module _ (file : List ℕ) (k : CodeHead) (from : ℕ) where
             R₃ .part .verdict-of []
             ∙ (ap (λ (s : List ℕ). verdictFrom file (asHead k) s e₂) (append-none lists) ∙ after-part lists _ l₂ rows-verdict)
 
-        pub lists-refused : {r : Reading} {n o : ℕ} → r ≡ handedUp r₃ → r₃ ≡ PartRefused n o → RestRead file (asHead k) from r c₀ c m₀ m
+        pub lists-refused : {r : Reading} {n o : ℕ} → r ≡ refusalOf r₃ → r₃ ≡ PartRefused n o → RestRead file (asHead k) from r c₀ c m₀ m
         lists-refused e d = rest-refused c₀ c m₀ m (up e d) (handed-part [] _ d lists-verdict)
 
         module _ {e₃ : ℕ} (l₃ : r₃ ≡ Lawful e₃) where
@@ -90,18 +91,19 @@ module _ (file : List ℕ) (k : CodeHead) (from : ℕ) where
           pub more-refused : (e₃ ≡ length file → ⊥) → RestRead file (asHead k) from (Refused 13 e₃) c₀ c m₀ m
           more-refused d = rest-refused c₀ c m₀ m refl (rw (ne-eqb e₃ (length file) d) at end-verdict)
 
-          pub rest-read : e₃ ≡ length file → k .candidates ≤ length c → k .institutes ≤ length m → RestRead file (asHead k) from (Read k) c₀ c m₀ m
-          rest-read d room room′ = record {
+          pub rest-read : InRange (asHead k) → 512 ≤ length c₀ → 32 ≤ length m₀ → length c ≡ length c₀ → length m ≡ length m₀ → e₃ ≡ length file
+              → RestRead file (asHead k) from (Read k) c₀ c m₀ m
+          rest-read y many more kept kept′ d = record {
             answer = rw (eq-eqb e₃ (length file) d) at end-verdict;
             head = λ j q. let s : j ≡ k = cc in ap asHead s;
             candidate-starts = λ j q s. record {
-              room = room;
+              room = omega (arith, y .candidates-most);
               starts-at = λ i l.
                   R₂ .starts-at (1 + k .institutes) e₂ i (R₁ .ends 1 e₁ s l₁) l₂ l
                   ∙ ap (startOf file) (assoc (k .institutes) i);
             };
             merit-starts = λ j q s. record {
-              room = room′;
+              room = omega (arith, y .institutes-most);
               starts-at = λ i l.
                   R₃ .starts-at (1 + k .institutes + k .candidates) e₃ i (R₂ .part .ends (1 + k .institutes) e₂ (R₁ .ends 1 e₁ s l₁) l₂) l₃ l
                   ∙ ap (startOf file) (assoc₃ (k .institutes) (k .candidates) i);
@@ -135,9 +137,9 @@ module _ (file : List ℕ) {r₀ : Part} (h₀ : Head) (got : r₀ ≡ partBy (f
       go true = refl
       go false = refl
 
-  pub round-refused : {r : Reading} {n o : ℕ} (c₀ c m₀ m : List ℕ) → r ≡ handedUp r₀ → r₀ ≡ PartRefused n o → RoundRead file r c₀ c m₀ m
+  pub round-refused : {r : Reading} {n o : ℕ} (c₀ c m₀ m : List ℕ) → r ≡ refusalOf r₀ → r₀ ≡ PartRefused n o → RoundRead file r c₀ c m₀ m
   round-refused {r} {n} {o} c₀ c m₀ m e d =
-      let up : r ≡ Refused n o = e ∙ ap handedUp d in
+      let up : r ≡ Refused n o = e ∙ ap refusalOf d in
       record {
         answer = ap verdictOf up ∙ (ap (λ (p : Part). onward p (verdictFrom file (headOf file) (dueAfter (headOf file)))) (sym d) ∙ head-verdict);
         head = λ j q. not-read j up q;
@@ -157,8 +159,11 @@ module _ (file : List ℕ) {r₀ : Part} (h₀ : Head) (got : r₀ ≡ partBy (f
     head-length : lengthAt file 0 ≡ 8
     head-length = answers.length-head (headOf file) (lengthAt file 0) (lead .allowed)
 
-    pub head-end : end ≡ 12
+    head-end : end ≡ 12
     head-end = omega (arith, head-zero .1, head-length)
+
+    pub head-behind : 4 ≤ end
+    head-behind = omega (arith, head-end)
 
     pub head-inside : end ≤ length file
     head-inside = omega (arith, head-zero .1, lead .body-there)

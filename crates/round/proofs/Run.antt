@@ -20,7 +20,7 @@ use Rattle.round.proofs.Answers as answers
 use Rattle.round.proofs.Found.{part-lawful, no-refusal}
 
 -- the verdict goes on from what the first record comes to
-pub turn : (file : List ℕ) (h : Head) (kind : ℕ) (kinds : List ℕ) (start : ℕ)
+turn : (file : List ℕ) (h : Head) (kind : ℕ) (kinds : List ℕ) (start : ℕ)
     → verdictFrom file h (kind ∷ kinds) start
     ≡ onward (partBy (firstNo (questionsAt file h kind start)) start (nextAt file start)) (verdictFrom file h kinds)
 unfolding verdictFrom

@@ -1,5 +1,5 @@
 -- A table of the numbers seen so far tells whether the next one was seen before (questions 10 and 12).
-use Prim.Native.Nat.{ℕ, zero, suc, _+_, _<_}
+use Prim.Native.Nat.{ℕ, zero, suc, _+_, _≤_, _<_}
 use mathlib.Core.Path.{_≡_, refl, sym, ap, _∙_}
 use mathlib.Core.Bool.{Bool, true, false, not, _&&_, _||_}
 use mathlib.Core.List.{List}
@@ -9,9 +9,11 @@ use borrow.Author.Tests.{eqb-true, eqb-false}
 use lib.Dec.{eqb}
 use lib.ListN.{length, getD, set, length-set, length-replicate, getD-replicate}
 use lib.Seq.{getD-set-same, getD-set-other}
+use Rattle.round.specs.Questions.{within, meritCount, meritIn}
 use Rattle.round.specs.Read.{noneSeen}
 use Rattle.round.specs.Lists.{bit, all, any, apart}
-use Rattle.round.proofs.Words.{all-no}
+use Rattle.round.proofs.Words.{all-at, all-no, was-yes}
+use Rattle.round.proofs.Answers.{within-to}
 
 -- all are not, where not any is
 all-not : (n : ℕ) (g : ℕ → Bool) → all n (λ k. not (g k)) ≡ not (any n g)
@@ -30,9 +32,15 @@ bit-none : (b : Bool) → (bit b ≡ 1 → ⊥) → b ≡ false
 bit-none true n = absurd (n refl)
 bit-none false n = refl
 
-pub length-none : length noneSeen ≡ 513
+length-none : length noneSeen ≡ 513
 unfolding noneSeen
 length-none = length-replicate {A = ℕ} 513 0
+
+-- the numbers of a list that names candidates only have a place in the table
+pub listed-small : (candidates : ℕ) (body : List ℕ) {r : Bool} → r ≡ all (meritCount body) (λ p. within 1 candidates (meritIn body p)) → not r ≡ false → candidates ≤ 512
+    → (p : ℕ) → p < meritCount body → meritIn body p < 513
+listed-small candidates body e d few p l =
+    omega (arith, within-to 1 candidates (meritIn body p) (all-at (meritCount body) (λ p. within 1 candidates (meritIn body p)) (was-yes e d) p l))
 
 -- two numbers of f are the same
 abbrev pub same : (ℕ → ℕ) → ℕ → ℕ → Bool
@@ -47,10 +55,14 @@ pub record Seen (f : ℕ → ℕ) (i : ℕ) (table : List ℕ) : Type 0 where
 pub seen-none : (f : ℕ → ℕ) (table : List ℕ) → table ≡ noneSeen → Seen f 0 table
 unfolding noneSeen
 seen-none f table e = record {
-  room = ap length e ∙ length-replicate {A = ℕ} 513 0;
+  room = ap length e ∙ length-none;
   told = λ x l. ap (λ (t : List ℕ). getD t x 0) e ∙ getD-replicate 513 x 0 0 l;
   different = refl;
 }
+
+-- the table keeps its length
+pub same-room : {f : ℕ → ℕ} {i : ℕ} {table before : List ℕ} → Seen f i table → before ≡ noneSeen → length table ≡ length before
+same-room s e = s .room ∙ sym (ap length e ∙ length-none)
 
 module _ (f : ℕ → ℕ) (i : ℕ) (table : List ℕ) (s : Seen f i table) (small : f i < 513) where
   -- the next number was seen
@@ -81,13 +93,14 @@ module _ (f : ℕ → ℕ) (i : ℕ) (table : List ℕ) (s : Seen f i table) (sm
         different = rw (fresh n) (s .different);
       })
 
--- the same, for a number that code has read
-module _ (f : ℕ → ℕ) (i : ℕ) (table : List ℕ) (s : Seen f i table) {v : ℕ} (here : v ≡ f i) (small : f i < 513) where
-  pub read-again : (n : ℕ) → i < n → getD table v 0 ≡ 1 → apart n (same f) ≡ false
-  read-again n l e = seen-again f i table s small n l (rw here at e)
+-- the same, for a number that code has read, where all have a place in the table
+module _ (f : ℕ → ℕ) (i n : ℕ) (table : List ℕ) (s : Seen f i table) {v : ℕ} (here : v ≡ f i) (l : i < n) (small : (p : ℕ) → p < n → f p < 513) where
+  -- `different` stands for the test, so that `search` takes f from the table
+  pub read-again : {different : Bool} → getD table v 0 ≡ 1 → apart n (same f) ≡ different → false ≡ different
+  read-again e d = sym (seen-again f i table s (small i l) n l (rw here at e)) ∙ d
 
   pub read-more : (getD table v 0 ≡ 1 → ⊥) → Seen f (i + 1) (set table v 1)
-  read-more n = rw here (seen-more f i table s small (rw here at n))
+  read-more e = rw here (seen-more f i table s (small i l) (rw here at e))
 
   pub read-room : v < length table
-  read-room = omega (arith, s .room)
+  read-room = omega (arith, s .room, small i l)

@@ -58,7 +58,7 @@ module _ (institutes types : ℕ) (body : List ℕ) (y : Answers.CandidateYes in
       let no-more : ¬ (l < k) = λ m. y .entries-differ l k m kl (sym (s .0)) (sym (s .1)) in
       omega arith
 
-  pub sound-candidate : SoundCandidate institutes types (candidateIn body)
+  sound-candidate : SoundCandidate institutes types (candidateIn body)
   unfolding candidateIn entryIn
   sound-candidate = record {
     marks-held = y .marks-held;
@@ -141,7 +141,7 @@ module _ (h : Head) (body list : List ℕ) (y : Answers.InstituteYes (h .types) 
   unfolding instituteFrom stepsIn rulesBy
   steps-by = refl
 
-  pub sound-institute : SoundInstitute (h .candidates) (h .types) (instituteFrom h body list)
+  sound-institute : SoundInstitute (h .candidates) (h .types) (instituteFrom h body list)
   unfolding Good
   sound-institute =
       let b : Bool = eqb (h .policy) 1 in

@@ -8,8 +8,9 @@ use native.Mathlib.Omega.{arith}
 use native.Mathlib.Numerals.{add-one}
 use native.Mathlib.Nat.{add-zero, add-suc, suc-add, zero-add, mul-le-mul-left}
 use borrow.Author.Tests.{not-true, not-false, le-leb, lt-leb}
+use Rattle.round.specs.Records.{word}
 use Rattle.round.specs.Questions.{within}
-use lib.Dec.{leb}
+use lib.Dec.{leb, ltb}
 use lib.ListN.{length, getD}
 use Rattle.round.specs.Lists.{tabulate, tabulateFrom, sum, sumOf, all, apart}
 
@@ -85,6 +86,10 @@ sum-tabulateFrom s (suc n) f =
 pub sum-tabulate : (n : ℕ) (f : ℕ → ℕ) → sum (tabulate n f) ≡ sumOf n f
 sum-tabulate n f = sum-tabulateFrom 0 n f ∙ simp zero-add
 
+-- the number that two bytes make, as code reads them
+pub word-read : (s : List ℕ) (i : ℕ) {x y : ℕ} → x ≡ getD s i 0 → y ≡ getD s (i + 1) 0 → x + 256 * y ≡ word s i
+word-read s i {x} {y} e d = omega (arith, rw add-one at d)
+
 -- tests of a number that code has read
 pub within-no : (low high : ℕ) {x y : ℕ} {r : Bool} → x ≡ y → r ≡ within low high x → not r ≡ true → within low high y ≡ false
 within-no low high {x} {y} {r} e f n = rw e at (sym f ∙ not-true r n)
@@ -109,7 +114,10 @@ slot types code l = omega (arith, mul-le-mul-left (1 + types) h)
 pub sum-step : (f : ℕ → ℕ) (i : ℕ) {s v : ℕ} → s ≡ sumOf i f → v ≡ f i → s + v ≡ sumOf (i + 1) f
 sum-step f i {s} {v} e d = rw add-one (omega arith)
 
--- a loop that tests f 0, f 1, ..: one turn, and a test that fails
+pub sum-end : (f : ℕ → ℕ) {i n s : ℕ} → i ≤ n → n ≤ i → s ≡ sumOf i f → s ≡ sumOf n f
+sum-end f {i} {n} {s} l m e = let q : i ≡ n = omega arith in rw q at e
+
+-- a loop that tests f 0, f 1, ..: one turn, a test that fails, and the end
 pub all-step : (f : ℕ → Bool) (i : ℕ) → all i f ≡ true → f i ≡ true → all (i + 1) f ≡ true
 all-step f i e d = rw (add-one, d) e
 
@@ -119,6 +127,12 @@ all-no n f i l d = go (all n f) refl
     go : (b : Bool) → all n f ≡ b → all n f ≡ false
     go true e = clash (sym (all-at n f e i l) ∙ d)
     go false e = e
+
+pub all-fails : (f : ℕ → Bool) {i m n : ℕ} → m ≡ n → i < m → f i ≡ false → false ≡ all n f
+all-fails f {i} {m} {n} e l d = sym (all-no n f i (rw e at l) d)
+
+pub all-end : (f : ℕ → Bool) {i m n : ℕ} → m ≡ n → i ≤ m → m ≤ i → all i f ≡ true → true ≡ all n f
+all-end f {i} {m} {n} e l k d = let q : i ≡ n = omega arith in sym (rw q at d)
 
 -- the end of a loop that counts up
 pub reached : {A : Type 0} (f : ℕ → A) {i n : ℕ} {x : A} → i ≤ n → n ≤ i → f i ≡ x → x ≡ f n
@@ -131,12 +145,21 @@ leb-both-no {a} {b} {x} {y} e d l = lt-leb a b (omega arith)
 pub leb-both-yes : {a b x y : ℕ} → x ≡ a → y ≡ b → x ≤ y → leb a b ≡ true
 leb-both-yes {a} {b} {x} {y} e d l = le-leb a b (omega arith)
 
--- the first question of several is answered no, or yes
-pub ask-no : {b : Bool} (rest n : ℕ) → b ≡ false → n ≡ cond b rest n
-ask-no rest n e = rw e
+pub ltb-both : {a b x y : ℕ} → x ≡ a → y ≡ b → ltb x y ≡ ltb a b
+ltb-both {a} {b} {x} {y} e d = cc
 
-pub ask-yes : {b : Bool} {x : ℕ} (rest n : ℕ) → b ≡ true → x ≡ rest → x ≡ cond b rest n
-ask-yes rest n e d = rw e d
+-- a test by the flag that code has for it
+pub was-no : {b r : Bool} → r ≡ b → not r ≡ true → b ≡ false
+was-no {b} {r} e d = sym e ∙ not-true r d
+
+pub was-yes : {b r : Bool} → r ≡ b → not r ≡ false → b ≡ true
+was-yes {b} {r} e d = sym e ∙ not-false r d
+
+pub not-yes : {b r : Bool} → r ≡ b → r ≡ true → not b ≡ false
+not-yes e d = ap not (sym e ∙ d)
+
+pub not-no : {b r : Bool} → r ≡ b → r ≡ false → not b ≡ true
+not-no e d = ap not (sym e ∙ d)
 
 -- a mark's place value, as the code computes it
 pub power : (t : ℕ) → t ≤ 8 → 1 * 2 ^ t % 18446744073709551616 ≡ 2 ^ t
@@ -164,7 +187,17 @@ or-true b e = rw e
 pub or-false : {a b : Bool} → a ≡ false → b ≡ a || b
 or-false e = rw e
 
--- the cases of a test
+-- several tests of one question
+pub both-no : {a : Bool} (b : Bool) → a ≡ false → a && b ≡ false
+both-no b e = rw e
+
+pub both-next : {a b : Bool} → a ≡ true → b ≡ false → a && b ≡ false
+both-next e d = rw e d
+
+pub both-yes : {a b : Bool} → a ≡ true → b ≡ true → a && b ≡ true
+both-yes e d = rw e d
+
+-- the cases of a test: of a question, the next ones count where its answer is yes
 pub cond-yes : {A : Type 0} {b : Bool} {z : A} (x y : A) → b ≡ true → z ≡ x → z ≡ cond b x y
 cond-yes x y e d = rw e d
 

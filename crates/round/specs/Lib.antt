@@ -5,6 +5,7 @@ pub mod Records
 pub mod Questions
 pub mod Refusal
 pub mod Reading
+pub mod Rules
 pub mod Places
 pub mod Sound
 pub mod Read

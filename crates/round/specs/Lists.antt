@@ -1,5 +1,5 @@
 -- Words about lists and numbers that the definitions share.
-use Prim.Native.Nat.{ℕ, zero, suc, _+_}
+use Prim.Native.Nat.{ℕ, zero, suc, _+_, max}
 use mathlib.Core.Bool.{Bool, true, false, cond, not, _&&_, _||_}
 use mathlib.Core.List.{List, [], _∷_}
 
@@ -25,6 +25,11 @@ count (suc n) X = bit (X n) + count n X
 abbrev pub sumOf : ℕ → (ℕ → ℕ) → ℕ
 sumOf zero f = 0
 sumOf (suc n) f = f n + sumOf n f
+
+-- the greatest of f 0, .., f (n - 1), and 0
+unfoldable pub greatest : ℕ → (ℕ → ℕ) → ℕ
+greatest zero f = 0
+greatest (suc n) f = max (f n) (greatest n f)
 
 abbrev pub sum : List ℕ → ℕ
 sum [] = 0

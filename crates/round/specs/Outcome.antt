@@ -18,10 +18,10 @@ abbrev pub verdictOf : Reading → Verdict
 verdictOf (Read h) = passes
 verdictOf (Refused number offset) = refused number offset
 
--- the refusal that some records hand up; after records that are as due, what is left is refused by 13
-abbrev pub handedUp : Part → Reading
-handedUp (Lawful end) = Refused 13 end
-handedUp (PartRefused number offset) = Refused number offset
+-- the refusal of records that are not as due; a lawful part is never handed up, and what it gives is of no matter
+abbrev pub refusalOf : Part → Reading
+refusalOf (Lawful end) = Refused 13 end
+refusalOf (PartRefused number offset) = Refused number offset
 
 -- a table has where each of so many records starts, by their numbers
 pub record Starts (file : List ℕ) (number : ℕ → ℕ) (count : ℕ) (table : List ℕ) : Type 0 where

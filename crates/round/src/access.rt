@@ -1,6 +1,5 @@
 // What a round file means that was read, number by number: no layer above speaks of its bytes.
 use crate::candidate::entry_count;
-use crate::entry::Category;
 use crate::entry::Entry;
 use crate::entry::category_of;
 use crate::head::Head;
@@ -38,15 +37,6 @@ fn merit_body<'a>(file: &'a [u8], starts: &[usize], j: usize) -> &'a [u8]
     ensures { λ r. ⌜ MeritRead (now (file .entry)) j (now r) ⌝ }
 {
     body_at(file, starts[j])
-}
-
-// A candidate's category.
-pub fn candidate_category(file: &[u8], starts: &[usize], i: usize) -> Category
-    requires { ⌜ CandidateKnown (now file) (now starts) i ⌝ }
-    ensures { λ r. ⌜ r ≡ candidateOf (now (file .entry)) i .category ⌝ }
-{
-    let body = candidate_body(file, starts, i);
-    category_of(body[0])
 }
 
 // A candidate's marks, the lowest bit for type 1.

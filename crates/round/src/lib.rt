@@ -7,4 +7,5 @@ pub mod institute;
 pub mod merit;
 pub mod reader;
 pub mod records;
+pub mod rules;
 pub mod word;

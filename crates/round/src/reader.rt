@@ -9,7 +9,7 @@ ghost use Prim.Native.Nat.{_≤_};
 ghost use lib.ListN.{length};
 ghost use Rattle.round.specs.Read.{asHead, InRange};
 ghost use Rattle.round.specs.Parts.{RunPart};
-ghost use Rattle.round.specs.Outcome.{handedUp, RestRead, RoundRead};
+ghost use Rattle.round.specs.Outcome.{refusalOf, RestRead, RoundRead};
 
 // What reading a file comes to: the numbers of its round, or the first question answered no and its byte.
 pub enum Reading {
@@ -17,9 +17,9 @@ pub enum Reading {
     Refused { number: usize, offset: usize },
 }
 
-// The refusal that some records hand up. Records that are as due are handed up as 13 at the byte where they end.
+// The refusal of records that are not as due. No call hands a lawful part up: what this gives for one is of no matter.
 fn handed(got: Part) -> Reading
-    ensures { λ r. ⌜ r ≡ handedUp got ⌝ }
+    ensures { λ r. ⌜ r ≡ refusalOf got ⌝ }
 {
     match got {
         Part::Lawful { end } => Reading::Refused {

@@ -3,37 +3,25 @@ use Prim.Native.Nat.{ℕ, _<_, _≤_}
 use mathlib.Core.Path.{_≡_, refl}
 use mathlib.Core.Bool.{Bool, true, false, cond, _&&_}
 use mathlib.Core.List.{List, _++_}
-use borrow.Author.Tests.{leb-true, le-leb, lt-leb}
+use borrow.Author.Tests.{le-leb, lt-leb}
 use lib.Dec.{leb}
 use lib.ListN.{length, getD, drop, replicate, length-replicate}
 use Rattle.round.specs.Round.{Round}
 use Rattle.round.specs.Reading.{roundOf}
 use Rattle.round.specs.Refusal as Refusal
 use Rattle.round.specs.Refusal.{Verdict, verdict, passes}
-use Rattle.round.proofs.Words.{and-fst, and-snd}
 use Rattle.offers.specs.Process.{noSeat, candidateCount, offersMade, seats}
 use Rattle.allotment.specs.Areas.{answerBytes, answerSize, workSize, seatIn, seatsIn}
-use Rattle.allotment.specs.Outcome.{Outcome, allotted, refused, outcome, outcomeOn, outcomeBy, answerAfter, workAfter, Accepted}
+use Rattle.allotment.specs.Outcome.{Outcome, allotted, refused, outcome, outcomeBy, answerAfter, workAfter, Accepted}
 use Rattle.allotment.proofs.Files.AreaSeats.{length-answer, seat-stands, seats-stand}
-
--- what it says of a call that it answers "allotted" with this number
-pub record Accepting (file : List ℕ) (answerLength workLength offers : ℕ) : Type 0 where
-  pub passing : verdict file ≡ passes
-  pub answer-large : answerSize (roundOf file) ≤ answerLength
-  pub work-large : workSize (roundOf file) ≤ workLength
-  pub number : offers ≡ offersMade (roundOf file)
 
 no-room : (b : Bool) (here there : Outcome) → cond (b && false) here there ≡ there
 no-room true here there = refl
 no-room false here there = refl
 
-room : (b : Bool) (offers number : ℕ) → cond b (allotted number) (refused 14 0) ≡ allotted offers → (b ≡ true) × (offers ≡ number)
-room true offers number e = (refl, cc)
-room false offers number e = (cc, cc)
-
-pass : (v : Verdict) (r : Round) (a w offers : ℕ) → outcomeBy v r a w ≡ allotted offers → (v ≡ passes) × (outcomeOn r a w ≡ allotted offers)
-pass Refusal.passes r a w offers e = (refl, e)
-pass (Refusal.refused number offset) r a w offers e = (cc, cc)
+pass : (v : Verdict) (r : Round) (a w : ℕ) {offers : ℕ} → outcomeBy v r a w ≡ allotted offers → v ≡ passes
+pass Refusal.passes r a w e = refl
+pass (Refusal.refused number offset) r a w e = cc
 
 module _ (file : List ℕ) (a w : ℕ) where
   -- the file is refused
@@ -55,19 +43,6 @@ module _ (file : List ℕ) (a w : ℕ) where
       → outcome file a w ≡ allotted (offersMade (roundOf file))
   unfolding outcome
   outcome-allotted e l m = rw (e, le-leb (answerSize (roundOf file)) a l, le-leb (workSize (roundOf file)) w m)
-
-  pub accepting : (offers : ℕ) → outcome file a w ≡ allotted offers → Accepting file a w offers
-  unfolding outcome
-  accepting offers e =
-      let r : Round = roundOf file in
-      let p = pass (verdict file) r a w offers e in
-      let q = room (leb (answerSize r) a && leb (workSize r) w) offers (offersMade r) (p .1) in
-      record {
-        passing = p .0;
-        answer-large = leb-true _ _ (and-fst _ (leb (workSize r) w) (q .0));
-        work-large = leb-true _ _ (and-snd (leb (answerSize r) a) _ (q .0));
-        number = q .1;
-      }
 
 -- what a call leaves in both areas
 module _ (file answer work : List ℕ) where
@@ -96,7 +71,8 @@ module _ (file answer work : List ℕ) where
 -- the list that stands in the answer area after an accepted call
 module _ (file answer work : List ℕ) (accepted : Accepted file answer work) where
   pub accepted-passes : verdict file ≡ passes
-  accepted-passes = accepting file (length answer) (length work) (accepted .0) (accepted .1) .passing
+  unfolding outcome
+  accepted-passes = pass (verdict file) (roundOf file) (length answer) (length work) (accepted .1)
 
   pub seat-after : (i : ℕ) → i < candidateCount (roundOf file) → seatIn (answerAfter file answer work) i ≡ getD (seats (roundOf file)) i noSeat
   seat-after i l = rw (answer-written file answer work (accepted .0) (accepted .1)) (seat-stands (roundOf file) _ i l)

@@ -4,15 +4,14 @@ use mathlib.Core.Path.{_≡_, sym, ap, _∙_, subst⁻¹}
 use mathlib.Core.Logic.{_≢_}
 use mathlib.Core.List.{List}
 use native.Mathlib.Omega.{arith}
-use native.Mathlib.Decide.{decLt}
-use lib.ListN.{getD, List·getD-eq-default}
+use lib.ListN.{getD}
 use lib.Seq.{getD-take, ext-getD}
-use Rattle.round.specs.Category.{categoryOf}
 use Rattle.round.specs.Records.{Head, headIn, headOf, startOf, bodyOf, instituteRecord, candidateRecord, meritRecord, recordCount}
 use Rattle.round.specs.Reading.{candidateIn, instituteFrom, roundOf}
-use Rattle.round.specs.Places.{candidateAt, instituteAt, noCandidate, noInstitute}
+use Rattle.round.specs.Places.{candidateAt, instituteAt, noInstitute}
 use Rattle.round.proofs.Sound.{candidate-at, institute-at, length-candidates, length-institutes}
 use Rattle.offers.specs.Process.{candidateCount}
+use Rattle.offers.proofs.Rounds.TruthfulRound.{AlikeBut}
 use Rattle.allotment.specs.Truthful.{Alike}
 use Rattle.allotment.proofs.Files.Bodies.{same-body}
 
@@ -20,7 +19,7 @@ module _ (file other : List ℕ) (i : ℕ) (alike : Alike file other i) where
   bodies : (k : ℕ) → k < recordCount (headOf file) → k ≢ candidateRecord (headOf file) i → bodyOf file k ≡ bodyOf other k
   bodies k l d = same-body file other k (alike .records k l d)
 
-  pub same-head : headOf file ≡ headOf other
+  same-head : headOf file ≡ headOf other
   unfolding startOf
   same-head = ap headIn (bodies 0 (omega arith) (λ e. omega arith))
 
@@ -39,7 +38,7 @@ module _ (file other : List ℕ) (i : ℕ) (alike : Alike file other i) where
       ∙ (ap (λ (b : List ℕ). instituteFrom h b (bodyOf file (meritRecord h j))) own
       ∙ (ap (λ (b : List ℕ). instituteFrom h (bodyOf other (instituteRecord h j)) b) list ∙ sym (other-institute j l)))
 
-  pub same-institutes : roundOf file .institutes ≡ roundOf other .institutes
+  same-institutes : roundOf file .institutes ≡ roundOf other .institutes
   same-institutes =
       ext-getD noInstitute _ _
       (length-institutes file ∙ (ap (λ (h : Head). h .institutes) same-head ∙ sym (length-institutes other)))
@@ -57,26 +56,25 @@ module _ (file other : List ℕ) (i : ℕ) (alike : Alike file other i) where
       subst⁻¹ (λ (h : Head). (k : ℕ) → k < h .candidates → candidateAt (roundOf other) k ≡ candidateIn (bodyOf other (candidateRecord h k)))
       same-head (candidate-at other)
 
-  pub same-candidate : (k : ℕ) → k ≢ i → candidateAt (roundOf file) k ≡ candidateAt (roundOf other) k
-  same-candidate k d = go (decLt k (headOf file .candidates))
-    where
-      go : Dec (k < headOf file .candidates) → candidateAt (roundOf file) k ≡ candidateAt (roundOf other) k
-      go (yes l) =
-          candidate-at file k l
-          ∙ (ap candidateIn (bodies (candidateRecord (headOf file) k) (omega arith) (λ e. d (omega arith))) ∙ sym (other-candidate k l))
-      go (no m) =
-          List·getD-eq-default (roundOf file .candidates) noCandidate (omega (arith, length-candidates file))
-          ∙ sym (List·getD-eq-default (roundOf other .candidates) noCandidate (omega (arith, length-candidates file, same-count)))
+  same-candidate : (k : ℕ) → k < candidateCount (roundOf file) → k ≢ i → candidateAt (roundOf file) k ≡ candidateAt (roundOf other) k
+  same-candidate k l d =
+      let m : k < headOf file .candidates = omega (arith, length-candidates file) in
+      candidate-at file k m
+      ∙ (ap candidateIn (bodies (candidateRecord (headOf file) k) (omega arith) (λ e. d (omega arith))) ∙ sym (other-candidate k m))
 
-  code-marks : (k : ℕ) → k < 2 → getD (bodyOf file (candidateRecord (headOf file) i)) k 0 ≡ getD (bodyOf other (candidateRecord (headOf file) i)) k 0
-  code-marks k l =
-      sym (getD-take 2 (bodyOf file (candidateRecord (headOf file) i)) k 0 l)
-      ∙ (ap (λ (s : List ℕ). getD s k 0) (alike .codeAndMarks) ∙ getD-take 2 (bodyOf other (candidateRecord (headOf file) i)) k 0 l)
-
-  pub same-category : candidateAt (roundOf file) i .category ≡ candidateAt (roundOf other) i .category
+  same-marks : candidateAt (roundOf file) i .marks ≡ candidateAt (roundOf other) i .marks
   unfolding candidateIn
-  same-category = rw (candidate-at file i (alike .candidate), other-candidate i (alike .candidate)) (ap categoryOf (code-marks 0 (omega arith)))
+  same-marks =
+      let k : ℕ = candidateRecord (headOf file) i in
+      rw (candidate-at file i (alike .candidate), other-candidate i (alike .candidate))
+      (sym (getD-take 2 (bodyOf file k) 1 0 (omega arith))
+      ∙ (ap (λ (s : List ℕ). getD s 1 0) (alike .codeAndMarks) ∙ getD-take 2 (bodyOf other k) 1 0 (omega arith)))
 
-  pub same-marks : candidateAt (roundOf file) i .marks ≡ candidateAt (roundOf other) i .marks
-  unfolding candidateIn
-  same-marks = rw (candidate-at file i (alike .candidate), other-candidate i (alike .candidate)) (code-marks 1 (omega arith))
+  -- both rounds are alike but for that row
+  pub alike-rounds : AlikeBut (roundOf file) (roundOf other) i
+  alike-rounds = record {
+    institutes = same-institutes;
+    number = same-count;
+    others = same-candidate;
+    marks = same-marks;
+  }

@@ -1,10 +1,10 @@
 -- The bytes that an accepted call puts into the answer area: how many they are, and what stands at each place.
-use Prim.Native.Nat.{ℕ, suc, _+_, _*_, _/_, _%_, _<_}
+use Prim.Native.Nat.{ℕ, suc, _+_, _*_, _<_}
 use mathlib.Core.Path.{_≡_, refl, sym, _∙_}
 use mathlib.Core.List.{List, _++_}
 use native.Mathlib.Omega.{arith}
 use lib.ListN.{length, getD, length-append, List·getD-append}
-use lib.Seq.{getD-append-add, ext-getD}
+use lib.Seq.{ext-getD}
 use Rattle.round.specs.Lists.{tabulate}
 use Rattle.round.specs.Round.{Round}
 use Rattle.round.proofs.Words.{length-tabulate, tabulate-at}
@@ -47,38 +47,11 @@ module _ (r : Round) where
       ∙ getD-pieces 2 (λ i. seatBytes (getD (seats r) i noSeat)) (λ i. refl) (candidateCount r) i k l m)
 
   -- the two bytes of candidate i's seat
-  pub answer-institute : (i at : ℕ) → i < candidateCount r → at ≡ 2 * i → getD (answerBytes r) at 0 ≡ getD (seats r) i noSeat .institute
+  answer-institute : (i at : ℕ) → i < candidateCount r → at ≡ 2 * i → getD (answerBytes r) at 0 ≡ getD (seats r) i noSeat .institute
   answer-institute i at l e = let q : at ≡ 2 * i + 0 = omega arith in rw q (seat-byte i 0 l (omega arith))
 
-  pub answer-step : (i at : ℕ) → i < candidateCount r → at ≡ 2 * i + 1 → getD (answerBytes r) at 0 ≡ getD (seats r) i noSeat .step
+  answer-step : (i at : ℕ) → i < candidateCount r → at ≡ 2 * i + 1 → getD (answerBytes r) at 0 ≡ getD (seats r) i noSeat .step
   answer-step i at l e = rw e (seat-byte i 1 l (omega arith))
-
-  -- the bytes of institute j's closing places
-  pub answer-closing : (j b : ℕ) → j < instituteCount r → b < 12
-      → getD (answerBytes r) (2 * candidateCount r + (12 * j + b)) 0 ≡ getD (closingBytes r (seats r) j) b 0
-  unfolding closingPart
-  answer-closing j b l m =
-      rw (answer-parts, ← length-seatPart)
-      (getD-append-add seatPart closingPart (12 * j + b) 0 ∙ getD-pieces 12 (closingBytes r (seats r)) (length-closing (seats r)) (instituteCount r) j b l m)
-
-  closing-byte : (j k b : ℕ) → j < instituteCount r → k < 6 → b < 2
-      → getD (answerBytes r) (2 * candidateCount r + (12 * j + (2 * k + b))) 0 ≡ getD (wordBytes (closingPlace r (seats r) j (suc k))) b 0
-  unfolding closingBytes
-  closing-byte j k b l m o =
-      answer-closing j (2 * k + b) l (omega arith) ∙ getD-pieces 2 (λ k. wordBytes (closingPlace r (seats r) j (suc k))) (λ k. refl) 6 k b m o
-
-  -- the two bytes of the closing place of step k, from 0, at institute j
-  pub answer-closing-low : (j k at : ℕ) → j < instituteCount r → k < 6 → at ≡ 2 * candidateCount r + 12 * j + 2 * k
-      → getD (answerBytes r) at 0 ≡ closingPlace r (seats r) j (suc k) % 256
-  answer-closing-low j k at l m e =
-      let q : at ≡ 2 * candidateCount r + (12 * j + (2 * k + 0)) = omega arith in
-      rw q (closing-byte j k 0 l m (omega arith))
-
-  pub answer-closing-high : (j k at : ℕ) → j < instituteCount r → k < 6 → at ≡ 2 * candidateCount r + 12 * j + 2 * k + 1
-      → getD (answerBytes r) at 0 ≡ closingPlace r (seats r) j (suc k) / 256 % 256
-  answer-closing-high j k at l m e =
-      let q : at ≡ 2 * candidateCount r + (12 * j + (2 * k + 1)) = omega arith in
-      rw q (closing-byte j k 1 l m (omega arith))
 
   -- the seat that stands in an area that starts with the answer bytes
   pub seat-stands : (rest : List ℕ) (i : ℕ) → i < candidateCount r → seatIn (answerBytes r ++ rest) i ≡ getD (seats r) i noSeat

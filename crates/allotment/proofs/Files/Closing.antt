@@ -6,10 +6,12 @@ use mathlib.Core.List.{List}
 use native.Mathlib.Omega.{arith}
 use native.Mathlib.Numerals.{add-one}
 use lib.ListN.{length, getD}
+use mir.Syntax.{w64}
+use mir.Val.{Fits}
 use Rattle.choice.specs.Use.{greatest}
 use Rattle.round.specs.Records.{headOf}
 use Rattle.round.specs.Reading.{roundOf}
-use Rattle.round.specs.Round.{Round}
+use Rattle.round.specs.Round.{Institute, Round}
 use Rattle.round.specs.Places.{instituteAt, meritAt}
 use Rattle.round.specs.Sound.{SoundInstitute}
 use Rattle.round.proofs.Sound.{sound, length-candidates, length-institutes}
@@ -47,36 +49,35 @@ pub held-at : (holders steps : List ℕ) (i : ℕ) → i < length holders → ge
 unfolding seatsHeld
 held-at holders steps i l = tabulate-at (length holders) (seatHeld holders steps) noSeat i l
 
--- what stands on the merit list of an institute of an accepted file
-module _ (file merits holders steps : List ℕ) (j : ℕ) (known : ClosingKnown file merits holders steps) (below : j < headOf file .institutes) where
-  listing : SoundInstitute (length (roundOf file .candidates)) (headOf file .types) (instituteAt (roundOf file) j)
+-- what stands on the merit list of an institute of an accepted file: a number, and whether its candidate is seated at step k
+module _ {file merits holders steps : List ℕ} {j : ℕ} (known : ClosingKnown file merits holders steps) (below : j < headOf file .institutes) where
+  abbrev own : Institute
+  own = instituteAt (roundOf file) j
+
+  listing : SoundInstitute (length (roundOf file .candidates)) (headOf file .types) own
   listing = sound file (known .accepted) .institute j (omega (arith, length-institutes file))
 
-  pub merit-least : (p : ℕ) → p < length (instituteAt (roundOf file) j .merit) → 1 ≤ meritAt (instituteAt (roundOf file) j) p
-  merit-least p l = listing .merit-from p l
+  module _ {p number : ℕ} (inside : p < length (own .merit)) (read : number ≡ meritAt own p) where
+    pub merit-least : 1 ≤ number
+    merit-least = omega (arith, listing .merit-from p inside)
 
-  pub merit-held : (p : ℕ) → p < length (instituteAt (roundOf file) j .merit)
-      → (candidateOn (roundOf file) j p < length holders) × (candidateOn (roundOf file) j p < length steps)
-  merit-held p l = omega (arith, listing .merit-from p l, listing .merit-to p l, length-candidates file, known .holders-many, known .steps-many)
+    pub holder-there : number - 1 < length holders
+    holder-there = omega (arith, merit-least, listing .merit-to p inside, length-candidates file, known .holders-many)
 
-  pub merit-few : length (instituteAt (roundOf file) j .merit) ≤ 512
-  merit-few =
-      omega (arith, merit-short (roundOf file) j listing, sound file (known .accepted) .candidates-most)
+    pub step-there : number - 1 < length steps
+    step-there = omega (arith, holder-there, known .holders-many, known .steps-many)
 
-  seat-there : (k p : ℕ) {number : ℕ} {b : Bool} → p < length (instituteAt (roundOf file) j .merit)
-      → number ≡ meritAt (instituteAt (roundOf file) j) p → b ≡ seatIs (seatHeld holders steps (number - 1)) (j + 1) k
-      → seatIs (getD (seatsHeld holders steps) (candidateOn (roundOf file) j p) noSeat) (suc j) k ≡ b
-  seat-there k p l e f =
-      rw (held-at holders steps (candidateOn (roundOf file) j p) (merit-held p l .0), ← add-one j, ← e) (sym f)
+    pub place-fits : Fits w64 (p + 1)
+    place-fits = omega (arith, merit-short (roundOf file) j listing, sound file (known .accepted) .candidates-most)
 
-  pub place-seated : (k p : ℕ) {number : ℕ} {b : Bool} → p < length (instituteAt (roundOf file) j .merit)
-      → number ≡ meritAt (instituteAt (roundOf file) j) p → b ≡ seatIs (seatHeld holders steps (number - 1)) (j + 1) k
-      → b ≡ true → p + 1 ≡ seatedPlace (roundOf file) (seatsHeld holders steps) j k p
-  unfolding seatedPlace
-  place-seated k p l e f t = cond-yes (suc p) 0 (seat-there k p l e f ∙ t) (add-one p)
+    module _ (k : ℕ) {b : Bool} (told : b ≡ seatIs (seatHeld holders steps (number - 1)) (j + 1) k) where
+      seat-there : seatIs (getD (seatsHeld holders steps) (candidateOn (roundOf file) j p) noSeat) (suc j) k ≡ b
+      seat-there = rw (← read, held-at holders steps (number - 1) holder-there, ← add-one j) (sym told)
 
-  pub place-empty : (k p : ℕ) {number : ℕ} {b : Bool} → p < length (instituteAt (roundOf file) j .merit)
-      → number ≡ meritAt (instituteAt (roundOf file) j) p → b ≡ seatIs (seatHeld holders steps (number - 1)) (j + 1) k
-      → b ≡ false → 0 ≡ seatedPlace (roundOf file) (seatsHeld holders steps) j k p
-  unfolding seatedPlace
-  place-empty k p l e f t = cond-no (suc p) 0 (seat-there k p l e f ∙ t) refl
+      pub place-seated : b ≡ true → p + 1 ≡ seatedPlace (roundOf file) (seatsHeld holders steps) j k p
+      unfolding seatedPlace
+      place-seated t = cond-yes (suc p) 0 (seat-there ∙ t) (add-one p)
+
+      pub place-empty : b ≡ false → 0 ≡ seatedPlace (roundOf file) (seatsHeld holders steps) j k p
+      unfolding seatedPlace
+      place-empty t = cond-no (suc p) 0 (seat-there ∙ t) refl

@@ -13,30 +13,30 @@ use Rattle.allotment.specs.Outcome.{refused, outcome}
 use Rattle.allotment.specs.Promise.{Promise}
 use Rattle.allotment.proofs.Files.Accepting.{outcome-refused, outcome-answer-small, outcome-work-small, outcome-allotted}
 use Rattle.allotment.proofs.Files.Accepting.{answer-stays, work-stays, answer-written, work-cleared}
-use Rattle.allotment.proofs.Files.Promised.{StableRounds, TruthfulRounds, promised}
+use Rattle.allotment.proofs.Files.Promised.{promised}
 
-module _ (stableRound : StableRounds) (truthfulRound : TruthfulRounds) (file answer work : List ℕ) where
+module _ (file answer work : List ℕ) where
   refuses : (number offset : ℕ) → outcome file (length answer) (length work) ≡ refused number offset
       → Promise file answer work (Refused number offset) answer work
   refuses number offset e =
-      promised stableRound truthfulRound file answer work (Refused number offset) answer work (sym e)
+      promised file answer work (Refused number offset) answer work (sym e)
       (sym (answer-stays file answer work number offset e)) (sym (work-stays file answer work number offset e))
 
-  pub returns-refused : (number offset : ℕ) → verdict file ≡ Refusal.refused number offset → Promise file answer work (Refused number offset) answer work
-  returns-refused number offset e = refuses number offset (outcome-refused file (length answer) (length work) number offset e)
+  pub promise-refused : (number offset : ℕ) → verdict file ≡ Refusal.refused number offset → Promise file answer work (Refused number offset) answer work
+  promise-refused number offset e = refuses number offset (outcome-refused file (length answer) (length work) number offset e)
 
-  pub returns-answer-small : verdict file ≡ passes → length answer < answerSize (roundOf file) → Promise file answer work (Refused 14 0) answer work
-  returns-answer-small e l = refuses 14 0 (outcome-answer-small file (length answer) (length work) e l)
+  pub promise-answer-small : verdict file ≡ passes → length answer < answerSize (roundOf file) → Promise file answer work (Refused 14 0) answer work
+  promise-answer-small e l = refuses 14 0 (outcome-answer-small file (length answer) (length work) e l)
 
-  pub returns-work-small : verdict file ≡ passes → length work < workSize (roundOf file) → Promise file answer work (Refused 14 0) answer work
-  returns-work-small e l = refuses 14 0 (outcome-work-small file (length answer) (length work) e l)
+  pub promise-work-small : verdict file ≡ passes → length work < workSize (roundOf file) → Promise file answer work (Refused 14 0) answer work
+  promise-work-small e l = refuses 14 0 (outcome-work-small file (length answer) (length work) e l)
 
-  pub returns-allotted : verdict file ≡ passes → answerSize (roundOf file) ≤ length answer → workSize (roundOf file) ≤ length work
+  pub promise-allotted : verdict file ≡ passes → answerSize (roundOf file) ≤ length answer → workSize (roundOf file) ≤ length work
       → (answerNow workNow : List ℕ)
       → answerNow ≡ answerBytes (roundOf file) ++ drop (answerSize (roundOf file)) answer
       → workNow ≡ replicate (workSize (roundOf file)) 0 ++ drop (workSize (roundOf file)) work
       → Promise file answer work (Allotted (offersMade (roundOf file))) answerNow workNow
-  returns-allotted e l m answerNow workNow seen cleared =
+  promise-allotted e l m answerNow workNow seen cleared =
       let told = outcome-allotted file (length answer) (length work) e l m in
-      promised stableRound truthfulRound file answer work (Allotted (offersMade (roundOf file))) answerNow workNow (sym told)
+      promised file answer work (Allotted (offersMade (roundOf file))) answerNow workNow (sym told)
       (seen ∙ sym (answer-written file answer work _ told)) (cleared ∙ sym (work-cleared file answer work _ told))

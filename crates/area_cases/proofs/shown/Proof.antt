@@ -1,6 +1,5 @@
 -- `area_cases::shown` lends parts that lie within both rooms.
 -- Assumes nothing.
-use mathlib.Core.Path.{sym}
 use lib.Seq.{length-take-le}
 use borrow.Author.Needs.{needs}
 use Rattle.area_cases.proofs.shown.Statement.{statement}
@@ -10,13 +9,13 @@ slice-relend-prefix-allot : tie.Need-slice-relend-prefix-allot
 slice-relend-prefix-allot c = search needs
 
 slice-aggregate-allot : tie.Need-slice-aggregate-allot
-slice-aggregate-allot c = sym (length-take-le _ _ (c .before .before .before .before .pre .0))
+slice-aggregate-allot c = search (needs, length-take-le)
 
 slice-relend-prefix-allot-2 : tie.Need-slice-relend-prefix-allot-2
 slice-relend-prefix-allot-2 c = search needs
 
 slice-aggregate-allot-2 : tie.Need-slice-aggregate-allot-2
-slice-aggregate-allot-2 c = sym (length-take-le _ _ (c .before .before .before .before .before .pre .1))
+slice-aggregate-allot-2 c = search (needs, length-take-le)
 
 allot-requires : tie.Need-allot-requires
 allot-requires c κs = search needs

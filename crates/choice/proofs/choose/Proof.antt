@@ -1,84 +1,83 @@
--- `choice::choose` meets its contract: each step goes on from what the steps before it left. Assumes nothing.
-use Prim.Native.Nat.{ℕ, zero}
-use mathlib.Core.Path.{_≡_, ap, _∙_}
-use lib.ListN.{length, replicate}
-use borrow.Author.Tests.{eq-eqb, ne-eqb}
-use Rattle.choice.proofs.Choosing.{Ran, chosen-five, chosen-six}
+-- `choice::choose` meets its contract: each turn of the loop is a step of the definition. Assumes nothing.
+use Prim.Native.Nat.{ℕ, _-_, _≤_}
+use mathlib.Core.Path.{sym, ap, _∙_}
+use native.Mathlib.Omega.{arith}
+use lib.ListN.{replicate}
+use Rattle.choice.proofs.Choosing.{fewer-rules, Going, set-out, go-on, arrive}
 use borrow.Author.Needs.{needs}
 use Rattle.choice.proofs.choose.Statement.{statement}
 use Rattle.choice.proofs.choose.Tie as tie
 
--- no step changes the number of places
-fourth-length : (c : tie.After-own-step4) → length (c .own-step4 .last .1 .1 .1 .1 .1 .0) ≡ length (c .before .before .before .before .before .before .before .before .before .before .before .before .before .before .before .before .before .before .before .before .before .before .args .steps .now)
-fourth-length c = c .own-step4 .kept .1 .1 .1 .1 .1 .0 ∙ c .before .before .before .before .own-step3 .kept .1 .1 .1 .1 .1 .0 ∙ c .before .before .before .before .before .before .before .before .own-step2 .kept .1 .1 .1 .1 .1 .0 ∙ c .before .before .before .before .before .before .before .before .before .before .before .before .own-step .kept .1 .1 .1 .1 .1 .0 ∙ c .before .before .before .before .before .before .before .before .before .before .before .before .before .before .before .before .clear .kept .0
+abbrev Inv-loop : tie.InvT-loop
+Inv-loop rules types count marks offers steps₀ handed₀ k₀ steps handed k = (k ≤ count) × Going marks offers rules types count k steps handed
 
--- the steps of the codes 0 to 4
-ran : (c : tie.After-own-step5)
-    → Ran (c .before .before .before .before .before .before .before .before .before .before .before .before .before .before .before .before .before .before .before .before .before .before .before .before .before .before .args .marks .now) (c .before .before .before .before .before .before .before .before .before .before .before .before .before .before .before .before .before .before .before .before .before .before .before .before .before .before .args .offers .now) (c .before .before .before .before .before .before .before .before .before .before .before .before .before .before .before .before .before .before .before .before .before .before .before .before .before .before .args .types) (c .before .before .before .before .before .before .before .before .before .before .before .before .before .before .before .before .before .before .before .before .before .before .before .before .before .before .args .body .now)
-    (c .before .before .before .before .before .before .before .before .before .before .before .before .before .before .before .before .before .before .before .before .clear .last .0) (c .before .before .before .before .before .before .before .before .before .before .before .before .before .before .before .before .own-step .last .1 .1 .1 .1 .1 .0) (c .before .before .before .before .before .before .before .before .before .before .before .before .own-step2 .last .1 .1 .1 .1 .1 .0) (c .before .before .before .before .before .before .before .before .own-step3 .last .1 .1 .1 .1 .1 .0) (c .before .before .before .before .own-step4 .last .1 .1 .1 .1 .1 .0) (c .own-step5 .last .1 .1 .1 .1 .1 .0) (c .before .before .before .before .own-step4 .result)
-ran c = record {
-  clean = c .before .before .before .before .before .before .before .before .before .before .before .before .before .before .before .before .before .before .before .before .clear .ensures ∙ ap (λ (n : ℕ). replicate n zero) (c .before .before .before .before .before .before .before .before .before .before .before .before .before .before .before .before .before .before .before .before .before .before .before .before .before .before .pre .4);
-  first = c .before .before .before .before .before .before .before .before .before .before .before .before .before .before .before .before .own-step .ensures .0;
-  second = c .before .before .before .before .before .before .before .before .before .before .before .before .own-step2 .ensures .0;
-  third = c .before .before .before .before .before .before .before .before .own-step3 .ensures .0;
-  fourth = c .before .before .before .before .own-step4 .ensures .0;
-  fifth = c .own-step5 .ensures .0;
-  left = c .before .before .before .before .own-step4 .ensures .1;
-}
+abbrev μ-loop : tie.MeasureT-loop
+μ-loop rules types count marks offers steps₀ handed₀ k₀ steps handed k = count - k
 
-clear-requires : tie.Need-clear-requires
+abbrev start : tie.After-none-handed Inv-loop μ-loop → tie.Start Inv-loop μ-loop
+start m = m .before .before .before .before .before .before .before .before .before
+
+clear-requires : tie.Need-clear-requires Inv-loop μ-loop
 clear-requires c κs = search needs
 
-own-step-requires : tie.Need-own-step-requires
-own-step-requires c κs = search needs
+none-handed-requires : tie.Need-none-handed-requires Inv-loop μ-loop
+none-handed-requires c κs = search needs
 
-own-step-requires-2 : tie.Need-own-step-requires-2
-own-step-requires-2 c κs = search needs
+loop-holds : tie.Need-loop-holds Inv-loop μ-loop
+loop-holds c =
+    let cleared = c .before .before .before in
+    let s = start c in
+    (omega arith, set-out (s .args .marks .now) (s .args .offers .now) (s .args .rules .now) (s .args .types) (s .args .count) _ _ (cleared .clear .ensures ∙ ap (λ (n : ℕ). replicate n 0) (s .pre .1 .steps-each)) (c .none-handed .ensures))
 
-own-step-requires-3 : tie.Need-own-step-requires-3
-own-step-requires-3 c κs = search needs
+slice-aggregate-next-step : tie.Need-slice-aggregate-next-step Inv-loop μ-loop
+slice-aggregate-next-step c = let l = c .before .before in sym (l .loop .inv .1 .handing .sized)
 
-own-step-requires-4 : tie.Need-own-step-requires-4
-own-step-requires-4 c κs = search needs
+next-step-requires : tie.Need-next-step-requires Inv-loop μ-loop
+next-step-requires c κs =
+    let l = c .before .before .before in
+    let s = start (l .before) in (
+      fewer-rules (s .args .types) (s .args .count) _ (s .args .rules .now) (omega arith) (s .pre .0),
+      (l .loop .inv .1 .handing, record { few = s .pre .1 .few; offers-each = s .pre .1 .offers-each; steps-each = l .loop .inv .1 .sized }),
+    )
 
-own-step-requires-5 : tie.Need-own-step-requires-5
-own-step-requires-5 c κs =
-    let p = c .before .before .before .before .before .before .before .before .before .before .before .before .before .before .before .before .before .before .before .before .before .before .before .before .before .pre in
-    (p .0, p .1, p .2, p .3, fourth-length (c .before .before .before) ∙ p .4)
+add-k : tie.Need-add-k Inv-loop μ-loop
+add-k c = search needs
 
-dereserved-step-requires : tie.Need-dereserved-step-requires
-dereserved-step-requires c κs =
-    let p = c .before .before .before .before .before .before .before .before .before .before .before .before .before .before .before .before .before .before .before .before .before .before .before .before .before .before .before .before .before .before .pre in
-    (p .0, p .2, p .3, c .before .before .before .before .own-step5 .kept .1 .1 .1 .1 .1 .0 ∙ fourth-length (c .before .before .before .before .before .before .before .before) ∙ p .4)
+loop-less : tie.Need-loop-less Inv-loop μ-loop
+loop-less c = search needs
 
-same-length : tie.Need-same-length
-same-length c = c .before .before .dereserved-step .kept .1 .1 .1 .1 .0 ∙ c .before .before .before .before .before .before .before .own-step5 .kept .1 .1 .1 .1 .1 .0 ∙ fourth-length (c .before .before .before .before .before .before .before .before .before .before .before)
+loop-again : tie.Need-loop-again Inv-loop μ-loop
+loop-again c =
+    let stepped = c .before .before .before in
+    let turn = stepped .before .before .before in
+    let l = turn .before in
+    let s = start (l .before) in (
+      omega arith,
+      go-on (s .args .marks .now) (s .args .offers .now) (s .args .rules .now) (s .args .types) (s .args .count) _ _ _ _ _ (turn .loop-test .taken) (l .loop .inv .1)
+          (stepped .next-step .kept .1 .1 .1 .1 .1 .1 .0) (stepped .next-step .ensures),
+    )
 
-returns : tie.Need-returns
+same-length : tie.Need-same-length Inv-loop μ-loop
+same-length c = let l = c .before in l .loop .inv .1 .sized ∙ sym (start (l .before) .pre .1 .steps-each)
+
+returns : tie.Need-returns Inv-loop μ-loop
 returns c =
-    let a = c .before .before .before .before .before .before .before .before .before .before .before .before .before .before .before .before .before .before .before .before .before .before .before .before .before .before .before .before .before .before .before .before .before .args in
-    chosen-six (a .marks .now) (a .offers .now) (a .types) (a .body .now) _ _ _ _ _ _ _ (ran (c .before .before .before .before .before .before .before)) (a .policy) (eq-eqb (a .policy) 1 (c .before .before .before .before .if1 .taken)) _ (c .before .before .dereserved-step .ensures)
-
-same-length-2 : tie.Need-same-length-2
-same-length-2 c = search needs
-
-returns-2 : tie.Need-returns-2
-returns-2 c =
-    let a = c .before .before .before .before .before .before .before .before .before .before .before .before .before .before .before .before .before .before .before .before .before .before .before .before .before .before .before .before .before .args in
-    chosen-five (a .marks .now) (a .offers .now) (a .types) (a .body .now) _ _ _ _ _ _ _ (ran (c .before .before .before)) (a .policy) (ne-eqb (a .policy) 1 (c .if1 .left))
+    let l = c .before in
+    arrive _ _ _ _ _ _ _ (l .loop .handed) (c .loop-test .left) (l .loop .inv .1)
 
 pub choose-spec : {M : Type 1} → statement M
 choose-spec =
     tie.close
     (tie.spec
+    Inv-loop
+    μ-loop
     clear-requires
-    own-step-requires
-    own-step-requires-2
-    own-step-requires-3
-    own-step-requires-4
-    own-step-requires-5
-    dereserved-step-requires
+    none-handed-requires
+    loop-holds
+    slice-aggregate-next-step
+    next-step-requires
+    add-k
+    loop-less
+    loop-again
     same-length
-    returns
-    same-length-2
-    returns-2)
+    returns)

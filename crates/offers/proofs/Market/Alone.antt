@@ -5,12 +5,12 @@ use mathlib.Core.Logic.{_≢_}
 use Prim.Native.Nat.{ℕ, suc, _<_}
 use native.Mathlib.Omega.{arith}
 use Rattle.choice.proofs.Counting.{clash}
-use Rattle.offers.proofs.Market.Laws.{Offers, Market, kept}
+use Rattle.offers.proofs.Market.Laws.{Contracts, Market, kept}
 use Rattle.offers.proofs.Market.Update.{split-at}
 use Rattle.offers.proofs.Market.Rows.{Ranked, Rows, State, offers, offered, tried, offers-le, one-entry}
 use Rattle.offers.proofs.Market.Reached.{Reached, start, step, turned-le, reached-fits}
 
-module _ {n K : ℕ} {Ch : Offers → Offers} (M : Market n K Ch) {rows : Rows} where
+module _ {n K : ℕ} {Ch : Contracts → Contracts} (M : Market n K Ch) {rows : Rows} where
   pub alone : {t : State} → Reached n Ch rows t → (i e : ℕ) → Ch (offers rows t) i e ≡ true → suc (rows i .rank e) ≡ t i
   alone {t} (start z) i e q = absurd (omega (arith, z i, tried rows t i e (M .within (offers rows t) i e q)))
   alone (step {t = t} {u = u} k r l f h s) i e q =

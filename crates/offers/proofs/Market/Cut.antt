@@ -6,7 +6,7 @@ use Prim.Native.Nat.{ℕ, suc, _≤_, _<_}
 use native.Mathlib.Omega.{arith}
 use native.Mathlib.Decide.{decLe}
 use lib.Dec.{ltb}
-use Rattle.offers.proofs.Market.Laws.{Offers, _⊆_, Market, Held, kept}
+use Rattle.offers.proofs.Market.Laws.{Contracts, _⊆_, Market, Held, kept}
 use Rattle.offers.proofs.Market.Update.{put, put-here, put-elsewhere, split-at}
 use Rattle.offers.proofs.Market.Rows.{Row, Rows, State, offers, offered, tried, offers-le}
 use Rattle.offers.proofs.Market.Reached.{Served, Closed, Final}
@@ -17,7 +17,7 @@ unfoldable pub cut : Row → ℕ → Row
 cut r p = record { len = suc p; entry = r .entry; rank = r .rank }
 
 -- held under an entry that the row puts at place p or before
-abbrev pub HeldBy : (Offers → Offers) → Rows → State → ℕ → ℕ → Type 0
+abbrev pub HeldBy : (Contracts → Contracts) → Rows → State → ℕ → ℕ → Type 0
 HeldBy Ch rows t i p = (e : ℕ) × (Ch (offers rows t) i e ≡ true) × (rows i .rank e ≤ p)
 
 -- i's row cut behind place p
@@ -43,7 +43,7 @@ module _ (rows : Rows) (i p : ℕ) where
   unfolding offers
   cut-offers t = fun-ext (λ j. fun-ext (λ e. ap (λ r. ltb r (t j)) (cut-rank j e)))
 
-module _ {n K : ℕ} {Ch : Offers → Offers} (M : Market n K Ch) (rows : Rows) (i p : ℕ) (inside : p < rows i .len) where
+module _ {n K : ℕ} {Ch : Contracts → Contracts} (M : Market n K Ch) (rows : Rows) (i p : ℕ) (inside : p < rows i .len) where
   whole-held : (t : State) (j : ℕ) → Held Ch (offers (cutAt rows i p) t) j → Held Ch (offers rows t) j
   whole-held t j h = subst (λ O. Held Ch O j) (cut-offers rows i p t) h
 

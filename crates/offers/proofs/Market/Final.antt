@@ -6,11 +6,11 @@ use native.Mathlib.Omega.{arith}
 use native.Mathlib.Decide.{decLt, ℕ-discrete}
 use Rattle.round.specs.Lists.{sumOf}
 use Rattle.choice.proofs.Counting.{sumOf-le}
-use Rattle.offers.proofs.Market.Laws.{Offers, Market, Held, Unheld, held-or-not}
+use Rattle.offers.proofs.Market.Laws.{Contracts, Market, Held, Unheld, held-or-not}
 use Rattle.offers.proofs.Market.Rows.{Rows, State, offers}
 use Rattle.offers.proofs.Market.Reached.{Served, Reached, start, step, Final, turn, turn-turned, turned-sum, reached-fits}
 
-module _ {n K : ℕ} {Ch : Offers → Offers} (M : Market n K Ch) (rows : Rows) where
+module _ {n K : ℕ} {Ch : Contracts → Contracts} (M : Market n K Ch) (rows : Rows) where
   abbrev Turn : State → ℕ → Type 0
   Turn t i = (i < n) × Unheld Ch (offers rows t) i × (t i < rows i .len)
 

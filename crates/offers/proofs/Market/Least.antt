@@ -4,12 +4,12 @@ use Prim.Native.Nat.{ℕ, _≤_, _<_}
 use native.Mathlib.Nat.{lt-of-not-le}
 use native.Mathlib.Omega.{arith}
 use Rattle.choice.proofs.Counting.{clash}
-use Rattle.offers.proofs.Market.Laws.{Offers, Market, Unheld, kept}
+use Rattle.offers.proofs.Market.Laws.{Contracts, Market, Unheld, kept}
 use Rattle.offers.proofs.Market.Update.{split-at}
 use Rattle.offers.proofs.Market.Rows.{Rows, State, offers, offered, tried, offers-le}
 use Rattle.offers.proofs.Market.Reached.{Reached, start, step, Served, Closed}
 
-module _ {n K : ℕ} {Ch : Offers → Offers} (M : Market n K Ch) {rows : Rows} where
+module _ {n K : ℕ} {Ch : Contracts → Contracts} (M : Market n K Ch) {rows : Rows} where
   -- below a closed state nobody who has a turn has tried as much as there
   less : {t u : State} → Closed n Ch rows u → ((j : ℕ) → t j ≤ u j) → (i : ℕ) → i < n
       → Unheld Ch (offers rows t) i → t i < rows i .len → t i < u i

@@ -7,18 +7,18 @@ use native.Mathlib.Omega.{arith}
 use Rattle.round.specs.Lists.{count}
 use Rattle.choice.proofs.Counting.{clash}
 use Rattle.offers.proofs.Market.Sums.{sumOf-lt, count-none, count-one, count-some}
-use Rattle.offers.proofs.Market.Laws.{Offers, Market, Held, Unheld, kept, held-or-not, total}
+use Rattle.offers.proofs.Market.Laws.{Contracts, Market, Held, Unheld, kept, held-or-not, total}
 use Rattle.offers.proofs.Market.Update.{put, put-here, put-elsewhere, split-at}
-use Rattle.offers.proofs.Market.Rows.{Ranked, Rows, Alike, State, offers, offered, tried, offers-le}
+use Rattle.offers.proofs.Market.Rows.{Ranked, Rows, RowsAlikeBut, State, offers, offered, tried, offers-le}
 use Rattle.offers.proofs.Market.Reached.{Served, Closed, Final}
 use Rattle.offers.proofs.Market.Least.{least}
 use Rattle.offers.proofs.Market.Alone.{one-held}
 use Rattle.offers.proofs.Market.Final.{final}
 use Rattle.offers.proofs.Market.Single.{single, single-within, single-offered, single-held, single-closed}
 
-module _ {n K : ℕ} {Ch : Offers → Offers} (M : Market n K Ch) where
+module _ {n K : ℕ} {Ch : Contracts → Contracts} (M : Market n K Ch) where
   -- nobody loses, and i, who held nothing, holds something: more is held
-  more-held : (O P : Offers) → ((j : ℕ) → j < n → (a b : ℕ) → Ch O j a ≡ true → Ch O j b ≡ true → a ≡ b)
+  more-held : (O P : Contracts) → ((j : ℕ) → j < n → (a b : ℕ) → Ch O j a ≡ true → Ch O j b ≡ true → a ≡ b)
       → ((j : ℕ) → Held Ch O j → Held Ch P j) → (i : ℕ) → Unheld Ch O i → Held Ch P i → total n K (Ch O) < total n K (Ch P)
   unfolding total
   more-held O P one keep i f h =
@@ -43,7 +43,7 @@ module _ {n K : ℕ} {Ch : Offers → Offers} (M : Market n K Ch) where
           let o : rows j .rank e < u j = tried rows u j e (M .within (offers rows u) j e q) in
           (e, kept M (offers rows t) (offers rows u) j e (offers-le rows t u b) (offered rows t j e (omega (arith, d .fits j))) q)
 
-  module _ {rows others : Rows} {t v : State} (i y : ℕ) (ranked : (j : ℕ) → j < n → j ≢ i → Ranked (rows j)) (same : Alike i others rows)
+  module _ {rows others : Rows} {t v : State} (i y : ℕ) (ranked : (j : ℕ) → j < n → j ≢ i → Ranked (rows j)) (same : RowsAlikeBut i others rows)
       (f : Final n Ch rows t) (none : Unheld Ch (offers rows t) i) (o : offers rows t i y ≡ true) where
     pub rejected : Closed n Ch others v → Ch (offers others v) i y ≡ true → ⊥
     rejected c got = go (final M only)
@@ -54,10 +54,10 @@ module _ {n K : ℕ} {Ch : Offers → Offers} (M : Market n K Ch) where
         new : only i ≡ single y
         new = put-here i (single y) rows
 
-        as-rows : Alike i only rows
+        as-rows : RowsAlikeBut i only rows
         as-rows = put-elsewhere i (single y) rows
 
-        as-others : Alike i only others
+        as-others : RowsAlikeBut i only others
         as-others j d = put-elsewhere i (single y) rows j d ∙ sym (same j d)
 
         offered-there : offers others v i y ≡ true

@@ -6,7 +6,7 @@ use Prim.Native.Nat.{ℕ, _≤_, _<_}
 use native.Mathlib.Omega.{arith}
 use lib.Dec.{ltb}
 use borrow.Author.Tests.{ltb-true, lt-ltb}
-use Rattle.offers.proofs.Market.Laws.{Offers, _⊆_}
+use Rattle.offers.proofs.Market.Laws.{Contracts, _⊆_}
 
 pub record Row : Type 0 where
   pub len : ℕ
@@ -22,13 +22,13 @@ abbrev pub Rows : Type 0
 Rows = ℕ → Row
 
 -- rows alike but for i's
-abbrev pub Alike : ℕ → Rows → Rows → Type 0
-Alike i rows others = (j : ℕ) → j ≢ i → rows j ≡ others j
+abbrev pub RowsAlikeBut : ℕ → Rows → Rows → Type 0
+RowsAlikeBut i rows others = (j : ℕ) → j ≢ i → rows j ≡ others j
 
 abbrev pub State : Type 0
 State = ℕ → ℕ
 
-unfoldable pub offers : Rows → State → Offers
+unfoldable pub offers : Rows → State → Contracts
 offers rows t i e = ltb (rows i .rank e) (t i)
 
 pub offered : (rows : Rows) (t : State) (i e : ℕ) → rows i .rank e < t i → offers rows t i e ≡ true

@@ -7,9 +7,9 @@ use native.Mathlib.Omega.{arith}
 use lib.Dec.{eqb}
 use borrow.Author.Tests.{eqb-true, eq-eqb}
 use Rattle.round.specs.Lists.{bit}
-use Rattle.offers.proofs.Market.Laws.{Offers, _⊆_, Market, kept}
+use Rattle.offers.proofs.Market.Laws.{Contracts, _⊆_, Market, kept}
 use Rattle.offers.proofs.Market.Update.{put, put-here, put-elsewhere, split-at}
-use Rattle.offers.proofs.Market.Rows.{Row, Rows, Alike, State, offers, offered, tried}
+use Rattle.offers.proofs.Market.Rows.{Row, Rows, RowsAlikeBut, State, offers, offered, tried}
 use Rattle.offers.proofs.Market.Reached.{Served, Closed}
 
 unfoldable pub single : ℕ → Row
@@ -31,8 +31,8 @@ single-len : (y : ℕ) → single y .len ≡ 1
 unfolding single
 single-len y = refl
 
-module _ {n K : ℕ} {Ch : Offers → Offers} (M : Market n K Ch) {rows : Rows} {t : State} (c : Closed n Ch rows t) (i y : ℕ)
-    (o : offers rows t i y ≡ true) {others : Rows} (same : Alike i others rows) (new : others i ≡ single y) where
+module _ {n K : ℕ} {Ch : Contracts → Contracts} (M : Market n K Ch) {rows : Rows} {t : State} (c : Closed n Ch rows t) (i y : ℕ)
+    (o : offers rows t i y ≡ true) {others : Rows} (same : RowsAlikeBut i others rows) (new : others i ≡ single y) where
   pub single-within : offers others (put i 1 t) ⊆ offers rows t
   single-within j e = split-at (λ j. offers others (put i 1 t) j e ≡ true → offers rows t j e ≡ true) i here elsewhere j
     where

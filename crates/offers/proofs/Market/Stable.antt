@@ -6,21 +6,21 @@ use Prim.Native.Nat.{ℕ, _≤_, _<_}
 use native.Mathlib.Omega.{arith}
 use Rattle.round.proofs.Words.{or-cases}
 use Rattle.choice.proofs.Counting.{or-right}
-use Rattle.offers.proofs.Market.Laws.{Offers, _⊆_, Market}
+use Rattle.offers.proofs.Market.Laws.{Contracts, _⊆_, Market}
 use Rattle.offers.proofs.Market.Rows.{Rows, State, offers, offered, tried}
 use Rattle.offers.proofs.Market.Reached.{Served, Closed}
 use Rattle.offers.proofs.Market.Between.{between}
 
 infixl 60 _∪_
-abbrev pub _∪_ : Offers → Offers → Offers
+abbrev pub _∪_ : Contracts → Contracts → Contracts
 (O ∪ P) i e = O i e || P i e
 
 -- listed offers of candidates, none below a seat of its candidate in X
-pub record NoneBelow (n : ℕ) (rows : Rows) (X Z : Offers) : Type 0 where
+pub record NoneBelow (n : ℕ) (rows : Rows) (X Z : Contracts) : Type 0 where
   pub listed : (i e : ℕ) → Z i e ≡ true → (i < n) × (rows i .rank e < rows i .len)
   pub above : (i e d : ℕ) → Z i e ≡ true → X i d ≡ true → rows i .rank e ≤ rows i .rank d
 
-module _ {n K : ℕ} {Ch : Offers → Offers} (M : Market n K Ch) {rows : Rows} {t : State} (c : Closed n Ch rows t) (Z : Offers)
+module _ {n K : ℕ} {Ch : Contracts → Contracts} (M : Market n K Ch) {rows : Rows} {t : State} (c : Closed n Ch rows t) (Z : Contracts)
     (h : NoneBelow n rows (Ch (offers rows t)) Z) where
   pub tried-all : Z ⊆ offers rows t
   tried-all i e z = go (c .served i (h .listed i e z .0))

@@ -5,16 +5,16 @@ use mathlib.Core.Logic.{_⊎_, inl, inr}
 use Prim.Native.Nat.{ℕ, _<_}
 use native.Mathlib.Omega.{arith}
 use Rattle.choice.proofs.Counting.{clash}
-use Rattle.offers.proofs.Market.Laws.{Offers, Market, Held, Unheld, held-or-not}
+use Rattle.offers.proofs.Market.Laws.{Contracts, Market, Held, Unheld, held-or-not}
 use Rattle.offers.proofs.Market.Update.{put-elsewhere}
-use Rattle.offers.proofs.Market.Rows.{Ranked, Rows, Alike, State, offers, offered}
+use Rattle.offers.proofs.Market.Rows.{Ranked, Rows, RowsAlikeBut, State, offers, offered}
 use Rattle.offers.proofs.Market.Reached.{Served, Closed, Final}
 use Rattle.offers.proofs.Market.Final.{final}
 use Rattle.offers.proofs.Market.Cut.{cut, cutAt, cut-rank, cut-len, cut-held, HeldBy}
 use Rattle.offers.proofs.Market.Rejected.{rejected}
 
-module _ {n K : ℕ} {Ch : Offers → Offers} (M : Market n K Ch) where
-  pub truthful : {rows others : Rows} {t v : State} (i y : ℕ) → ((j : ℕ) → j < n → Ranked (rows j)) → Alike i others rows
+module _ {n K : ℕ} {Ch : Contracts → Contracts} (M : Market n K Ch) where
+  pub truthful : {rows others : Rows} {t v : State} (i y : ℕ) → ((j : ℕ) → j < n → Ranked (rows j)) → RowsAlikeBut i others rows
       → Final n Ch rows t → Closed n Ch others v → Ch (offers others v) i y ≡ true
       → rows i .rank y < rows i .len → HeldBy Ch rows t i (rows i .rank y)
   truthful {rows} {others} {t} {v} i y ranked same f c got listed = go (final M (cutAt rows i (rows i .rank y)))
@@ -25,7 +25,7 @@ module _ {n K : ℕ} {Ch : Offers → Offers} (M : Market n K Ch) where
       inside : i < n
       inside = M .bounded (offers others v) i y got .0
 
-      elsewhere : Alike i less rows
+      elsewhere : RowsAlikeBut i less rows
       elsewhere = put-elsewhere i (cut (rows i) (rows i .rank y)) rows
 
       go : (u : State) × Final n Ch less u → HeldBy Ch rows t i (rows i .rank y)

@@ -1,6 +1,6 @@
 -- Turns of a sound round in any order end with the same entries tried, and so with the same list after as many offers.
 use mathlib.Core.Path.{_≡_, sym, _∙_, ap}
-use mathlib.Core.Bool.{true, false}
+use mathlib.Core.Bool.{true}
 use mathlib.Core.List.{List}
 use Prim.Native.Nat.{ℕ, _<_}
 use lib.ListN.{getD, replicate}
@@ -9,6 +9,7 @@ use Rattle.round.specs.Lists as Lists
 use Rattle.round.specs.Round.{Round}
 use Rattle.round.specs.Sound.{Sound}
 use Rattle.offers.specs.Process.{candidateCount, seatsAfter, mayOffer, tried, offersMade, seats}
+use Rattle.offers.specs.Ended.{Ended}
 use Rattle.offers.proofs.Market.Rows.{State}
 use Rattle.offers.proofs.Market.Reached.{Final, reached-fits}
 use Rattle.offers.proofs.Market.AnyOrder.{any-order}
@@ -23,10 +24,6 @@ pub data Offered (r : Round) : List ℕ → Type 0 where
   offer : {state : List ℕ} (i : ℕ) → Offered r state → i < candidateCount r → mayOffer r state (seatsAfter r state) i ≡ true
       → Offered r (advanced state i)
 
--- nobody may offer any more
-abbrev pub Ended : Round → List ℕ → Type 0
-Ended r state = (i : ℕ) → i < candidateCount r → mayOffer r state (seatsAfter r state) i ≡ false
-
 module _ {types : ℕ} {r : Round} (sound : Sound types r) where
   -- any reached and closed state of the market is that of the process
   final-tried : {t : State} → Final (candidateCount r) (choiceOf r) (rowsOf r) t → (i : ℕ) → t i ≡ getD (tried r) i 0
@@ -37,7 +34,7 @@ module _ {types : ℕ} {r : Round} (sound : Sound types r) where
   offered-running (offer i o hi may) = turn-running (offered-running o) (may-offer sound (offered-running o) i hi may)
 
   -- a state that turns lead to, and in which nobody may offer, is the last of the process
-  ended-tried : {state : List ℕ} → Running r state → Ended r state → state ≡ tried r
+  pub ended-tried : {state : List ℕ} → Running r state → Ended r state → state ≡ tried r
   ended-tried {state} run ended =
       ext-getD 0 state (tried r) (run .each ∙ sym (tried-running sound .each))
       (λ i l. final-tried (record {

@@ -17,7 +17,7 @@ use Rattle.offers.specs.Offers.{OfferSet}
 use Rattle.offers.specs.Process.{candidateCount, instituteCount}
 use Rattle.offers.proofs.Market.Sums.{count-bits}
 use Rattle.offers.proofs.Market.DoubleSums.{sum-swap}
-use Rattle.offers.proofs.Market.Laws.{Offers, Market, total}
+use Rattle.offers.proofs.Market.Laws.{Contracts, Market, total}
 use Rattle.offers.proofs.Rounds.Numbered.{numberOf, number-institute, number-category, number-back}
 use Rattle.offers.proofs.Rounds.Fives.{five, five-same, sum-fives}
 use Rattle.offers.proofs.Rounds.Completed.{completed, completed-within, completed-stays, completed-grows}
@@ -29,17 +29,17 @@ and-false-last true false x y h e = refl
 and-false-last false b x y h e = refl
 
 -- the offers to institute j
-abbrev pub offersTo : Offers → ℕ → OfferSet
+abbrev pub offersTo : Contracts → ℕ → OfferSet
 offersTo O j i c = O i (numberOf j c)
 
 module _ (r : Round) where
   abbrev pub entryBound : ℕ
   entryBound = 5 * instituteCount r
 
-  unfoldable pub choiceOf : Offers → Offers
+  unfoldable pub choiceOf : Contracts → Contracts
   choiceOf O i e = ltb i (candidateCount r) && (ltb e entryBound && completed r (e / 5) (offersTo O (e / 5)) i (categoryOf (e % 5)))
 
-  pub choice-bounded : (O : Offers) (i e : ℕ) → choiceOf O i e ≡ true → (i < candidateCount r) × (e < entryBound)
+  pub choice-bounded : (O : Contracts) (i e : ℕ) → choiceOf O i e ≡ true → (i < candidateCount r) × (e < entryBound)
   unfolding choiceOf
   choice-bounded O i e t = (
     ltb-true i (candidateCount r) (and-fst (ltb i (candidateCount r)) _ t),
@@ -47,18 +47,18 @@ module _ (r : Round) where
   )
 
   -- what is chosen is what each institute's completion takes
-  pub choice-at : (O : Offers) (i j : ℕ) (c : Category) → i < candidateCount r → j < instituteCount r
+  pub choice-at : (O : Contracts) (i j : ℕ) (c : Category) → i < candidateCount r → j < instituteCount r
       → choiceOf O i (numberOf j c) ≡ completed r j (offersTo O j) i c
   unfolding choiceOf
   choice-at O i j c hi hj =
       let l : numberOf j c < entryBound = omega (arith, code-small c) in
       rw (lt-ltb i (candidateCount r) hi, lt-ltb (numberOf j c) entryBound l, number-institute j c, number-category j c)
 
-  choice-back : (O : Offers) (i e : ℕ) → choiceOf O i e ≡ true → completed r (e / 5) (offersTo O (e / 5)) i (categoryOf (e % 5)) ≡ true
+  choice-back : (O : Contracts) (i e : ℕ) → choiceOf O i e ≡ true → completed r (e / 5) (offersTo O (e / 5)) i (categoryOf (e % 5)) ≡ true
   unfolding choiceOf
   choice-back O i e t = and-snd (ltb e entryBound) _ (and-snd (ltb i (candidateCount r)) _ t)
 
-  choice-total : (O : Offers)
+  choice-total : (O : Contracts)
       → total (candidateCount r) entryBound (choiceOf O) ≡ sumOf (instituteCount r) (λ j. sumOf (candidateCount r) (λ i. five (completed r j (offersTo O j) i)))
   unfolding total five
   choice-total O =

@@ -47,13 +47,13 @@ number-back e = omega (arith, code-category (e % 5) (omega arith))
 number-entry : (j : ℕ) (c : Category) → entryWith (numberOf j c) ≡ entryOf j c
 number-entry j c = rw (number-institute j c, number-category j c)
 
-same-is : (x y : Entry) → sameEntry x y ≡ true → x ≡ y
+pub same-is : (x y : Entry) → sameEntry x y ≡ true → x ≡ y
 same-is x y e =
     let p : x .institute ≡ y .institute = eqb-true (x .institute) (y .institute) (and-fst (eqb (x .institute) (y .institute)) _ e) in
     let q : x .category ≡ y .category = same-category (x .category) (y .category) (and-snd (eqb (x .institute) (y .institute)) _ e) in
     λ i. record { institute = p i; category = q i }
 
-same-refl : (x : Entry) → sameEntry x x ≡ true
+pub same-refl : (x : Entry) → sameEntry x x ≡ true
 same-refl x = rw (eq-eqb (x .institute) (x .institute) refl) (same-self (x .category))
 
 -- where an entry stands in a row
@@ -107,18 +107,20 @@ module _ (r : Round) where
       let q : suc (x .institute - 1) ≡ x .institute = omega (arith, s .entry-from p l) in
       number-entry (x .institute - 1) (x .category) ∙ (λ k. record { institute = q k; category = x .category })
 
+  -- the rank of an entry of a sound row is its place
+  pub rank-place : {institutes types : ℕ} (i : ℕ) → SoundCandidate institutes types (candidateAt r i) → (p : ℕ) → p < length (rowAt r i)
+      → rankIn (rowAt r i) (entryAt (candidateAt r i) p) ≡ p
+  rank-place i s p l =
+      let x = entryAt (candidateAt r i) p in
+      let m : rankIn (rowAt r i) x < length (rowAt r i) = omega (arith, rank-first (rowAt r i) p l) in
+      s .entries-differ (rankIn (rowAt r i) x) p m l (rank-found (rowAt r i) x m)
+
   pub rows-ranked : {institutes types : ℕ} (i : ℕ) → SoundCandidate institutes types (candidateAt r i) → Ranked (rowsOf r i)
   unfolding rowBy
   rows-ranked i s = record {
-    rank-entry = λ p l. ap (λ (e : Entry). rankIn (rowAt r i) e) (rows-entry i s p l) ∙ place p l;
+    rank-entry = λ p l. ap (λ (e : Entry). rankIn (rowAt r i) e) (rows-entry i s p l) ∙ rank-place i s p l;
     entry-rank = λ e l.
         let q : entryAt (candidateAt r i) (rankIn (rowAt r i) (entryWith e)) ≡ entryWith e = rank-found (rowAt r i) (entryWith e) l in
         let z : suc (e / 5) - 1 ≡ e / 5 = omega arith in
         ap (λ (x : Entry). numberOf (x .institute - 1) (x .category)) q ∙ ap (λ j. numberOf j (categoryOf (e % 5))) z ∙ number-back e;
   }
-    where
-      place : (p : ℕ) → p < length (rowAt r i) → rankIn (rowAt r i) (entryAt (candidateAt r i) p) ≡ p
-      place p l =
-          let x = entryAt (candidateAt r i) p in
-          let m : rankIn (rowAt r i) x < length (rowAt r i) = omega (arith, rank-first (rowAt r i) p l) in
-          s .entries-differ (rankIn (rowAt r i) x) p m l (rank-found (rowAt r i) x m)

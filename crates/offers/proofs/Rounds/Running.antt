@@ -10,7 +10,7 @@ use Rattle.round.specs.Round.{Round}
 use Rattle.round.specs.Sound.{Sound}
 use Rattle.offers.specs.Offers.{OfferSet, takenFrom}
 use Rattle.offers.specs.Process.{candidateCount, instituteCount, madeTo}
-use Rattle.offers.proofs.Market.Laws.{Offers}
+use Rattle.offers.proofs.Market.Laws.{Contracts}
 use Rattle.offers.proofs.Market.Rows.{State, offers}
 use Rattle.offers.proofs.Market.Reached.{Reached}
 use Rattle.offers.proofs.Market.Alone.{one-held}
@@ -24,10 +24,10 @@ stateOf tried i = getD tried i 0
 
 module _ (r : Round) where
   -- the offers made in a state, and those held
-  abbrev pub made : List ℕ → Offers
+  abbrev pub made : List ℕ → Contracts
   made tried = offers (rowsOf r) (stateOf tried)
 
-  abbrev pub held : List ℕ → Offers
+  abbrev pub held : List ℕ → Contracts
   held tried = choiceOf r (made tried)
 
   pub made-to : (tried : List ℕ) (j : ℕ) → madeTo r tried j ≡ offersTo (made tried) j

@@ -21,7 +21,7 @@ use Rattle.offers.specs.Process.{noSeat, candidateCount, instituteCount,
 use Rattle.offers.specs.Standing.{standing}
 use Rattle.offers.specs.Stable.{given, stepOf, OfRows, Same, together, WouldChoose, SomeBelow, Stable}
 use Rattle.offers.proofs.Market.Tests.{some-below}
-use Rattle.offers.proofs.Market.Laws.{Offers}
+use Rattle.offers.proofs.Market.Laws.{Contracts}
 use Rattle.offers.proofs.Market.Reached.{reached-fits}
 use Rattle.offers.proofs.Market.Stable.{tried-all}
 use Rattle.offers.proofs.Rounds.Numbered.{numberOf, number-institute, number-category, rowBy, rowsOf, row-length, rows-rank}
@@ -71,7 +71,7 @@ module _ {types : ℕ} {r : Round} (sound : Sound types r) where
       below i c = set i c && ltb (standing r i (getD (seats r) i noSeat)) (rankIn (rowAt r i) (entryOf j c))
 
       -- the set among the offers to all institutes
-      abbrev setOf : Offers
+      abbrev setOf : Contracts
       setOf i e = eqb (e / 5) j && set i (categoryOf (e % 5))
 
       set-of : (i e : ℕ) → setOf i e ≡ true → (rowsOf r i .rank e ≡ rankIn (rowAt r i) (entryOf j (categoryOf (e % 5)))) × (set i (categoryOf (e % 5)) ≡ true)

@@ -20,9 +20,9 @@ use Rattle.offers.specs.Rows.{rowAt, rankIn, entryOf}
 use Rattle.offers.specs.Offers.{candidateOn, placeOn}
 use Rattle.offers.specs.Process.{noSeat, candidateCount, instituteCount, madeTo, tried, seats}
 use Rattle.offers.specs.Standing.{standing}
-use Rattle.offers.proofs.Market.Laws.{Offers}
+use Rattle.offers.proofs.Market.Laws.{Contracts}
 use Rattle.offers.proofs.Market.Update.{split-at}
-use Rattle.offers.proofs.Market.Rows.{Alike, offers}
+use Rattle.offers.proofs.Market.Rows.{RowsAlikeBut, offers}
 use Rattle.offers.proofs.Market.Reached.{Closed}
 use Rattle.offers.proofs.Market.Cut.{HeldBy}
 use Rattle.offers.proofs.Market.Truthful.{truthful}
@@ -38,7 +38,7 @@ use Rattle.offers.proofs.Rounds.Standing.{standing-at, standing-none, s
 use Rattle.offers.proofs.Rounds.StableRound.{seat-listed}
 
 -- all institutes' choice, from the institutes of r, with so many candidates of these marks
-unfoldable choiceBy : Round → ℕ → (ℕ → ℕ) → Offers → Offers
+unfoldable choiceBy : Round → ℕ → (ℕ → ℕ) → Contracts → Contracts
 choiceBy r n marks O i e =
     ltb i n
     && (ltb e (5 * instituteCount r)
@@ -79,13 +79,13 @@ module _ {types types' : ℕ} {r r' : Round} (sound : Sound types r) (sound' : S
       same-choice r r' (alike .institutes) (alike .number)
       (split-at (λ k. candidateAt r k .marks ≡ candidateAt r' k .marks) i (alike .marks) (λ k d. ap (λ (c : Candidate). c .marks) (same-candidate k d)))
 
-  same-rows : Alike i (rowsOf r') (rowsOf r)
+  same-rows : RowsAlikeBut i (rowsOf r') (rowsOf r)
   same-rows k d = ap rowBy (sym (same-candidate k d))
 
   closed' : Closed (candidateCount r) (choiceOf r) (rowsOf r') (stateOf (tried r'))
   closed' =
       subst⁻¹ (λ (n : ℕ). Closed n (choiceOf r) (rowsOf r') (stateOf (tried r'))) (alike .number)
-      (subst⁻¹ (λ (Ch : Offers → Offers). Closed (candidateCount r') Ch (rowsOf r') (stateOf (tried r'))) same-ch (tried-final sound' .closed))
+      (subst⁻¹ (λ (Ch : Contracts → Contracts). Closed (candidateCount r') Ch (rowsOf r') (stateOf (tried r'))) same-ch (tried-final sound' .closed))
 
   -- what i gets by the other row is no better, where i's row has it
   served : (j : ℕ) (c : Category) → held r' (tried r') i (numberOf j c) ≡ true → rankIn (rowAt r i) (entryOf j c) < length (rowAt r i)
@@ -94,7 +94,7 @@ module _ {types types' : ℕ} {r r' : Round} (sound : Sound types r) (sound' : S
   served j c got listed =
       go
       (truthful (round-market r sound) i (numberOf j c) (λ k l. rows-ranked r k (sound .candidate k l)) same-rows (tried-final sound) closed'
-      (ap (λ (Ch : Offers → Offers). Ch (offers (rowsOf r') (stateOf (tried r'))) i (numberOf j c)) same-ch ∙ got)
+      (ap (λ (Ch : Contracts → Contracts). Ch (offers (rowsOf r') (stateOf (tried r'))) i (numberOf j c)) same-ch ∙ got)
       (omega (arith, rows-rank r i j c, row-length r i)))
       (seat-of sound (tried-running sound) i hi)
     where

@@ -1,28 +1,73 @@
 -- `probe::tazbilk_choose` meets its contract: where the lengths fit the steps are those of the choice, and else they stay.
 -- Assumes nothing.
-use mathlib.Core.Path.{sym, _∙_}
+use mathlib.Core.Path.{_≡_, sym, _∙_}
+use mathlib.Core.Bool.{true}
+use lib.ListN.{length}
+use native.Mathlib.Omega.{arith}
 use borrow.Author.Needs.{needs}
-use Rattle.probe.proofs.Fitting.{fitted, steps-chosen, steps-stay}
+use Rattle.probe.specs.Probe.{fitting}
+use Rattle.probe.proofs.Fitting.{fitted, rules-chosen, steps-chosen, steps-stay}
 use Rattle.probe.proofs.tazbilk_choose.Statement.{statement}
 use Rattle.probe.proofs.tazbilk_choose.Tie as tie
+
+abbrev start : tie.After-rule-table → tie.Start
+start m = m .before .before .before .before .before .before .before
+
+fit : (m : tie.After-rule-table) → let a = start m .args in
+    fitting (a .types) (length (a .body .now)) (length (a .marks .now)) (length (a .offers .now)) (length (a .steps .now)) ≡ true
+fit m = let test = m .before in sym (test .before .fits2 .ensures) ∙ test .if1 .taken
 
 fits-requires : tie.Need-fits-requires
 fits-requires c κs = search needs
 
+rule-table-requires : tie.Need-rule-table-requires
+rule-table-requires c κs = search needs
+
+slice-aggregate-rules-of : tie.Need-slice-aggregate-rules-of
+slice-aggregate-rules-of c = search needs
+
+rules-of-requires : tie.Need-rules-of-requires
+rules-of-requires c κs =
+    let m = c .before in
+    let a = start m .args in
+    (fitted (a .body .now) (a .types) (a .policy) (a .marks .now) (a .offers .now) (a .steps .now) (fit m) .0, omega (arith, m .rule-table .ensures))
+
+slice-aggregate-choose : tie.Need-slice-aggregate-choose
+slice-aggregate-choose c = search needs
+
 choose-requires : tie.Need-choose-requires
-choose-requires c κs = fitted _ _ _ _ _ (sym (c .before .before .fits2 .ensures) ∙ c .before .if1 .taken)
+choose-requires c κs =
+    let read = c .before .before .before in
+    let m = read .before .before in
+    let a = start m .args in
+    (read .rules-of .ensures .table-of, fitted (a .body .now) (a .types) (a .policy) (a .marks .now) (a .offers .now) (a .steps .now) (fit m) .1)
 
 same-length : tie.Need-same-length
 same-length c = search needs
 
 returns : tie.Need-returns
 returns c =
-    c .before .before .choose .ensures
-    ∙ sym (steps-chosen _ _ _ _ _ _ (sym (c .before .before .before .before .before .fits2 .ensures) ∙ c .before .before .before .before .if1 .taken))
+    let chosen = c .before .before in
+    let read = chosen .before .before .before .before in
+    let m = read .before .before in
+    let a = start m .args in
+    chosen .choose .ensures
+    ∙ rules-chosen (a .body .now) (a .types) (a .policy) (a .marks .now) (a .offers .now) (a .steps .now) _ _ (read .rules-of .ensures)
+    ∙ sym (steps-chosen (a .body .now) (a .types) (a .policy) (a .marks .now) (a .offers .now) (a .steps .now) (fit m))
 
 returns-2 : tie.Need-returns-2
 returns-2 c = sym (steps-stay _ _ _ _ _ _ (sym (c .before .fits2 .ensures) ∙ c .if1 .left))
 
 pub tazbilk-choose-spec : {M : Type 1} → statement M
 tazbilk-choose-spec =
-    tie.close (tie.spec fits-requires choose-requires same-length returns returns-2)
+    tie.close
+    (tie.spec
+    fits-requires
+    rule-table-requires
+    slice-aggregate-rules-of
+    rules-of-requires
+    slice-aggregate-choose
+    choose-requires
+    same-length
+    returns
+    returns-2)

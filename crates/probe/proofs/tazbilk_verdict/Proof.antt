@@ -42,11 +42,13 @@ element-write-result-4 c = search needs
 
 returns : tie.Need-returns
 returns c =
-    ap (verdictIn _) (ap verdictOf (sym (c .enum-told .given .1)) ∙ c .before .before .before .before .read-round .ensures .answer)
+    let read = c .before .before .before .before .read-round in
+    ap (verdictIn _) (ap verdictOf (sym (c .enum-told .given .1)) ∙ read .ensures .answer)
 
 returns-2 : tie.Need-returns-2
 returns-2 c =
-    ap (verdictIn _) (ap verdictOf (sym (c .before .got .given .1)) ∙ c .before .before .before .before .before .read-round .ensures .answer)
+    let read = c .before .before .before .before .before .read-round in
+    ap (verdictIn _) (ap verdictOf (sym (c .before .got .given .1)) ∙ read .ensures .answer)
 
 pub tazbilk-verdict-spec : {M : Type 1} → statement M
 tazbilk-verdict-spec =

@@ -2,9 +2,8 @@
 -- Assumes nothing.
 use borrow.Author.Needs.{needs}
 use Prim.Native.Nat.{_≤_, _-_}
-use mathlib.Core.Path.{_≡_, refl, _∙_}
+use mathlib.Core.Path.{_≡_, refl}
 use native.Mathlib.Omega.{arith}
-use denote.Ref.{now}
 use lib.ListN.{length}
 use lib.Seq.{sets}
 use Rattle.round.specs.Lists.{tabulate}
@@ -40,24 +39,13 @@ loop-less : tie.Need-loop-less Inv-loop μ-loop
 loop-less c = search needs
 
 loop-again : tie.Need-loop-again Inv-loop μ-loop
-loop-again c =
-    let a = c .before .before .before .before .before .before .before .before .before .before .before .args in
-    let l = c .before .before .before .before .before .loop in (
-      omega arith,
-      c .before .before .write-institute .kept .1 .1 .1 .1 .1 .0 ∙ l .inv .1,
-      institute-put (roundOf (now (a .file))) (seatsHeld (now (a .holders)) (now (a .steps))) (now (a .area)) (a .at) (l .j)
-          (l .inv .2) (c .before .before .write-institute .ensures),
-    )
+loop-again c = (omega arith, search needs, search (needs, institute-put))
 
 same-length : tie.Need-same-length Inv-loop μ-loop
 same-length c = search needs
 
 returns : tie.Need-returns Inv-loop μ-loop
-returns c =
-    let a = c .before .before .before .before .before .before .before .args in
-    let l = c .before .loop in
-    institutes-put (roundOf (now (a .file))) (seatsHeld (now (a .holders)) (now (a .steps))) (now (a .area)) (a .at)
-    (l .inv .0) (c .loop-test .left) (l .inv .2)
+returns c = search (needs, institutes-put)
 
 pub write-closings-spec : {M : Type 1} → statement M
 write-closings-spec =

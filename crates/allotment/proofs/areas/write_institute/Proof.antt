@@ -2,9 +2,8 @@
 -- Assumes nothing.
 use borrow.Author.Needs.{needs}
 use Prim.Native.Nat.{_≤_, _-_}
-use mathlib.Core.Path.{_≡_, refl, _∙_}
+use mathlib.Core.Path.{_≡_, refl}
 use native.Mathlib.Omega.{arith}
-use denote.Ref.{now}
 use lib.ListN.{length}
 use lib.Seq.{sets}
 use Rattle.round.specs.Lists.{tabulate}
@@ -46,24 +45,13 @@ loop-less : tie.Need-loop-less Inv-loop μ-loop
 loop-less c = search needs
 
 loop-again : tie.Need-loop-again Inv-loop μ-loop
-loop-again c =
-    let a = c .before .before .before .before .before .before .before .before .before .before .before .before .args in
-    let l = c .before .before .before .before .before .before .loop in (
-      omega arith,
-      c .before .before .write-word .kept .0 ∙ l .inv .1,
-      closing-put (roundOf (now (a .file))) (seatsHeld (now (a .holders)) (now (a .steps))) (a .j) (now (a .area)) (a .at) (l .k)
-          (l .inv .2) (c .before .before .before .before .closing-place .ensures) (c .before .before .write-word .ensures),
-    )
+loop-again c = (omega arith, search needs, search (needs, closing-put))
 
 same-length : tie.Need-same-length Inv-loop μ-loop
 same-length c = search needs
 
 returns : tie.Need-returns Inv-loop μ-loop
-returns c =
-    let a = c .before .before .before .before .before .before .before .args in
-    let l = c .before .loop in
-    closings-put (roundOf (now (a .file))) (seatsHeld (now (a .holders)) (now (a .steps))) (a .j) (now (a .area)) (a .at)
-    (l .inv .0) (c .loop-test .left) (l .inv .2)
+returns c = search (needs, closings-put)
 
 pub write-institute-spec : {M : Type 1} → statement M
 write-institute-spec =

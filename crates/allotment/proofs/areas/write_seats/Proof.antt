@@ -4,7 +4,6 @@ use borrow.Author.Needs.{needs}
 use Prim.Native.Nat.{_≤_, _-_}
 use mathlib.Core.Path.{_≡_, refl}
 use native.Mathlib.Omega.{arith}
-use denote.Ref.{now}
 use lib.ListN.{length, length-set}
 use lib.Seq.{sets}
 use Rattle.round.specs.Lists.{tabulate}
@@ -50,23 +49,13 @@ loop-less : tie.Need-loop-less Inv-loop μ-loop
 loop-less c = search needs
 
 loop-again : tie.Need-loop-again Inv-loop μ-loop
-loop-again c =
-    let s = c .before .before .before .before in
-    let l = c .before .before .before .loop in (
-      omega arith,
-      refl,
-      simp length-set (l .inv .2),
-      seat-more (now (s .args .holders)) (now (s .args .steps)) (now (s .args .area)) (l .i) (omega arith) (l .inv .3),
-    )
+loop-again c = (omega arith, refl, simp length-set (search needs), search (needs, seat-more))
 
 same-length : tie.Need-same-length Inv-loop μ-loop
 same-length c = search needs
 
 returns : tie.Need-returns Inv-loop μ-loop
-returns c =
-    let a = c .before .before .args in
-    let l = c .before .loop in
-    seats-put (now (a .holders)) (now (a .steps)) (now (a .area)) (l .inv .0) (c .loop-test .left) (l .inv .3)
+returns c = search (needs, seats-put)
 
 pub write-seats-spec : {M : Type 1} → statement M
 write-seats-spec =

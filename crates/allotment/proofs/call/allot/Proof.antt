@@ -1,7 +1,6 @@
 -- A file is read; it is refused, or its round is allotted.
 -- Assumes nothing.
 use borrow.Author.Needs.{needs}
-use denote.Ref.{now}
 use Rattle.allotment.proofs.Calling.{handed-refused, at-hand}
 use Rattle.allotment.proofs.call.allot.Statement.{statement}
 use Rattle.allotment.proofs.call.allot.Tie as tie
@@ -31,9 +30,7 @@ handed-requires : tie.Need-handed-requires
 handed-requires c κs = search needs
 
 returns : tie.Need-returns
-returns c =
-    let a = c .before .before .before .before .before .before .before .before .before .before .before .before .before .args in
-    handed-refused (now (a .file)) (c .before .before .before .before .before .read-round .ensures) (now (a .answer)) (now (a .work)) (c .handed .ensures) (c .before .enum-told .given .1)
+returns c = search (needs, handed-refused)
 
 slice-aggregate-allot-round : tie.Need-slice-aggregate-allot-round
 slice-aggregate-allot-round c = search needs
@@ -42,9 +39,7 @@ slice-aggregate-allot-round-2 : tie.Need-slice-aggregate-allot-round-2
 slice-aggregate-allot-round-2 c = search needs
 
 allot-round-requires : tie.Need-allot-round-requires
-allot-round-requires c κs =
-    let a = c .before .before .before .before .before .before .before .before .before .before .before .before .before .before .before .before .before .args in
-    at-hand (now (a .file)) (c .before .before .before .before .before .before .before .before .before .read-round .ensures) (c .before .before .before .before .before .got .given .1)
+allot-round-requires c κs = search (needs, at-hand)
 
 same-length : tie.Need-same-length
 same-length c = search needs

@@ -1,48 +1,32 @@
 -- Question 14, and then the seats, the answer area and the work area of a round that was read.
 -- Assumes nothing.
 use borrow.Author.Needs.{needs}
-use mathlib.Core.Path.{sym}
 use native.Mathlib.Omega.{arith}
-use denote.Ref.{now}
-use Rattle.allotment.proofs.Calling.{few, places, places-many, answer-size, answer-small, work-small, all-well}
+use Rattle.allotment.proofs.Calling.{few, places, places-many, answer-fits, answer-small, work-small, all-well}
 use Rattle.allotment.proofs.call.allot_round.Statement.{statement}
 use Rattle.allotment.proofs.call.allot_round.Tie as tie
 
+-- the function's start, from its first test
+abbrev start : tie.After-slice-known2 → tie.Start
+start c = c .before .before .before .before .before
+
 mul-if1 : tie.Need-mul-if1
-mul-if1 c =
-    let s = c .before .before .before .before .before in
-    let a = s .args in
-    omega (arith, few (now (a .file)) (a .h) (now (a .candidates)) (now (a .merits)) (s .pre))
+mul-if1 c = omega (arith, few (start c .pre))
 
 mul-if1-2 : tie.Need-mul-if1-2
-mul-if1-2 c =
-    let s = c .before .before .before .before .before in
-    let a = s .args in
-    omega (arith, few (now (a .file)) (a .h) (now (a .candidates)) (now (a .merits)) (s .pre))
+mul-if1-2 c = omega (arith, few (start c .pre))
 
 add-if1 : tie.Need-add-if1
-add-if1 c =
-    let s = c .before .before .before .before .before in
-    let a = s .args in
-    omega (arith, few (now (a .file)) (a .h) (now (a .candidates)) (now (a .merits)) (s .pre))
+add-if1 c = omega (arith, few (start c .pre))
 
 returns : tie.Need-returns
-returns c =
-    let s = c .before .before .before .before .before .before in
-    let a = s .args in
-    answer-small (now (a .file)) (a .h) (now (a .candidates)) (now (a .merits)) (s .pre) (now (a .answer)) (now (a .work)) (c .if1 .taken)
+returns c = search (needs, answer-small)
 
 mul-if2 : tie.Need-mul-if2
-mul-if2 c =
-    let s = c .before .before .before .before .before .before in
-    let a = s .args in
-    omega (arith, few (now (a .file)) (a .h) (now (a .candidates)) (now (a .merits)) (s .pre))
+mul-if2 c = omega (arith, few (start (c .before) .pre))
 
 returns-2 : tie.Need-returns-2
-returns-2 c =
-    let s = c .before .before .before .before .before .before .before in
-    let a = s .args in
-    work-small (now (a .file)) (a .h) (now (a .candidates)) (now (a .merits)) (s .pre) (now (a .answer)) (now (a .work)) (c .if2 .taken)
+returns-2 c = search (needs, work-small)
 
 zeros-requires : tie.Need-zeros-requires
 zeros-requires c κs = search needs
@@ -51,36 +35,19 @@ zeros-requires-2 : tie.Need-zeros-requires-2
 zeros-requires-2 c κs = search needs
 
 array-borrow-prefix-holders : tie.Need-array-borrow-prefix-holders
-array-borrow-prefix-holders c =
-    let s = c .before .before .before .before .before .before .before .before .before in
-    let a = s .args in
-    places (now (a .file)) (a .h) (now (a .candidates)) (now (a .merits)) (s .pre) _ (c .before .zeros .ensures)
+array-borrow-prefix-holders c = search (needs, places)
 
 slice-aggregate-seat-all : tie.Need-slice-aggregate-seat-all
-slice-aggregate-seat-all c =
-    let s = c .before .before .before .before .before .before .before .before .before .before in
-    let a = s .args in
-    sym (places-many (now (a .file)) (a .h) (now (a .candidates)) (now (a .merits)) (s .pre) _ (c .before .before .zeros .ensures))
+slice-aggregate-seat-all c = search (needs, places-many)
 
 array-borrow-prefix-steps : tie.Need-array-borrow-prefix-steps
-array-borrow-prefix-steps c =
-    let s = c .before .before .before .before .before .before .before .before .before .before in
-    let a = s .args in
-    places (now (a .file)) (a .h) (now (a .candidates)) (now (a .merits)) (s .pre) _ (c .before .zeros2 .ensures)
+array-borrow-prefix-steps c = search (needs, places)
 
 slice-aggregate-seat-all-2 : tie.Need-slice-aggregate-seat-all-2
-slice-aggregate-seat-all-2 c =
-    let s = c .before .before .before .before .before .before .before .before .before .before .before in
-    let a = s .args in
-    sym (places-many (now (a .file)) (a .h) (now (a .candidates)) (now (a .merits)) (s .pre) _ (c .before .before .zeros2 .ensures))
+slice-aggregate-seat-all-2 c = search (needs, places-many)
 
 seat-all-requires : tie.Need-seat-all-requires
-seat-all-requires c κs =
-    let s = c .before .before .before .before .before .before .before .before .before .before .before .before in
-    let a = s .args in
-    let holders = places-many (now (a .file)) (a .h) (now (a .candidates)) (now (a .merits)) (s .pre) _ (c .before .before .before .before .zeros .ensures) in
-    let steps = places-many (now (a .file)) (a .h) (now (a .candidates)) (now (a .merits)) (s .pre) _ (c .before .before .before .zeros2 .ensures) in
-    (s .pre, ((holders, steps), omega (arith, answer-size (now (a .file)) (a .h) (now (a .candidates)) (now (a .merits)) (s .pre), c .before .before .before .before .before .before .if1 .left)))
+seat-all-requires c κs = (search needs, ((search places-many, search places-many), search (needs, answer-fits)))
 
 mul-clear : tie.Need-mul-clear
 mul-clear c = search needs
@@ -95,12 +62,7 @@ same-length-2 : tie.Need-same-length-2
 same-length-2 c = search needs
 
 returns-3 : tie.Need-returns-3
-returns-3 c =
-    let s = c .before .before .before .before .before .before .before .before .before .before .before .before .before .before .before .before .before .before .before .before .before in
-    let a = s .args in
-    let told = c .before .before .before .before .before .before .before .before .seat-all .ensures in
-    all-well (now (a .file)) (a .h) (now (a .candidates)) (now (a .merits)) (s .pre) (now (a .answer)) (now (a .work)) (c .before .before .before .before .before .before .before .before .before .before .before .before .before .before .before .if1 .left) (c .before .before .before .before .before .before .before .before .before .before .before .before .before .before .if2 .left)
-    (told .0) (told .1) (c .before .before .clear .ensures)
+returns-3 c = search (needs, all-well)
 
 pub allot-round-spec : {M : Type 1} → statement M
 allot-round-spec =

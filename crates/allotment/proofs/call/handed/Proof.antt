@@ -2,7 +2,7 @@
 -- Assumes nothing.
 use borrow.Author.Needs.{needs}
 use mathlib.Core.Path.{sym, ap}
-use Rattle.allotment.specs.Handing.{handedUp}
+use Rattle.allotment.specs.Handing.{refusedBy}
 use Rattle.allotment.proofs.call.handed.Statement.{statement}
 use Rattle.allotment.proofs.call.handed.Tie as tie
 
@@ -16,7 +16,7 @@ returns : tie.Need-returns
 returns c = search needs
 
 returns-2 : tie.Need-returns-2
-returns-2 c = sym (ap handedUp (c .before .got .given .1))
+returns-2 c = sym (ap refusedBy (c .before .got .given .1))
 
 pub handed-spec : {M : Type 1} → statement M
 handed-spec = tie.close (tie.spec enum-told enum-known-got returns returns-2)

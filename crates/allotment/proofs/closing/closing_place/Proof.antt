@@ -4,7 +4,6 @@ use borrow.Author.Needs.{needs}
 use Prim.Native.Nat.{_≤_, _-_}
 use mathlib.Core.Path.{_≡_}
 use native.Mathlib.Omega.{arith}
-use denote.Ref.{now}
 use lib.ListN.{length}
 use Rattle.round.specs.Reading.{roundOf}
 use Rattle.round.specs.Access.{instituteOf}
@@ -23,7 +22,7 @@ merit-length-requires : tie.Need-merit-length-requires Inv-loop μ-loop
 merit-length-requires c κs = search needs
 
 loop-holds : tie.Need-loop-holds Inv-loop μ-loop
-loop-holds c = (omega arith, c .merit-length .ensures, closing-start _ _ _ _)
+loop-holds c = (omega arith, c .merit-length .ensures, search closing-start)
 
 seated-place-requires : tie.Need-seated-place-requires Inv-loop μ-loop
 seated-place-requires c κs = search needs
@@ -38,18 +37,10 @@ loop-less : tie.Need-loop-less Inv-loop μ-loop
 loop-less c = search needs
 
 loop-again : tie.Need-loop-again Inv-loop μ-loop
-loop-again c =
-    let s = c .before .before .before .before .before .before .before .before .before in
-    let l = c .before .before .before .loop in (
-      omega arith,
-      l .inv .1,
-      closing-more (roundOf (now (s .args .file))) _ _ _ (l .p) (l .inv .2) (c .before .seated-place .ensures) (c .larger .ensures),
-    )
+loop-again c = (omega arith, search needs, search (needs, closing-more))
 
 returns : tie.Need-returns Inv-loop μ-loop
-returns c =
-    let l = c .before .loop in
-    closing-done (roundOf (now (c .before .before .before .before .before .before .before .args .file))) _ _ _ (l .inv .1) (l .inv .0) (c .loop-test .left) (l .inv .2)
+returns c = search (needs, closing-done)
 
 pub closing-place-spec : {M : Type 1} → statement M
 closing-place-spec =

@@ -3,11 +3,21 @@
 use borrow.Author.Needs.{needs}
 use borrow.Author.Tests.{eq-eqb, ne-eqb}
 use Prim.Native.Nat.{ℕ}
-use mathlib.Core.Path.{sym, ap, _∙_}
+use mathlib.Core.Path.{_≡_, sym, _∙_}
+use mathlib.Core.List.{List}
 use lib.Dec.{eqb}
+use lib.ListN.{getD}
 use Rattle.round.proofs.Words.{and-true, and-false}
+use Rattle.allotment.specs.Areas.{seatIs}
+use Rattle.allotment.specs.Writing.{seatHeld}
 use Rattle.allotment.proofs.closing.seated.Statement.{statement}
 use Rattle.allotment.proofs.closing.seated.Tie as tie
+
+-- once the institute is found, the step decides
+second-test : (holders steps : List ℕ) (i institute step : ℕ) {x y : ℕ} → x ≡ getD holders i 0 → x ≡ institute → y ≡ getD steps i 0
+    → eqb y step ≡ seatIs (seatHeld holders steps i) institute step
+second-test holders steps i institute step holder found given =
+    and-true (eq-eqb (getD holders i 0) institute (sym holder ∙ found)) (rw given)
 
 shared-slice-read-wide : tie.Need-shared-slice-read-wide
 shared-slice-read-wide c = search needs
@@ -22,9 +32,7 @@ wide-requires-2 : tie.Need-wide-requires-2
 wide-requires-2 c κs = search needs
 
 returns : tie.Need-returns
-returns c =
-    let a = c .before .before .before .before .before .before .before .args in
-    and-true (eq-eqb _ _ (sym (c .before .before .before .wide .ensures .0) ∙ c .before .before .if1 .taken)) (ap (λ (x : ℕ). eqb x (a .step)) (c .wide2 .ensures .0))
+returns c = search second-test
 
 returns-2 : tie.Need-returns-2
 returns-2 c = ne-eqb _ _ (c .if1 .left) ∙ and-false _ (ne-eqb _ _ (λ e. c .if1 .left (c .before .wide .ensures .0 ∙ e)))

@@ -11,26 +11,30 @@ use Rattle.choice.proofs.take.take_for_use.Statement.{statement}
 use Rattle.choice.proofs.take.take_for_use.Tie as tie
 
 abbrev Inv-loop : tie.InvT-loop
-Inv-loop reserved marks offers steps wanted placed₀ exhausted₀ n₀ p₀ p-end placed exhausted n p = (p ≤ length marks) × (p-end ≡ length marks) × (n ≤ p) × (length placed ≡ length placed₀) × (length exhausted ≡ 8) × Down reserved marks (considersBy offers steps wanted) placed exhausted n p
+Inv-loop reserved marks offers steps code placed₀ exhausted₀ n₀ p₀ p-end placed exhausted n p = (p ≤ length marks) × (p-end ≡ length marks) × (n ≤ p) × (length placed ≡ length placed₀) × (length exhausted ≡ 8) × Down reserved marks (considersBy offers steps code) placed exhausted n p
 
 abbrev μ-loop : tie.MeasureT-loop
-μ-loop reserved marks offers steps wanted placed₀ exhausted₀ n₀ p₀ p-end placed exhausted n p = length marks - p
+μ-loop reserved marks offers steps code placed₀ exhausted₀ n₀ p₀ p-end placed exhausted n p = length marks - p
+
+abbrev start : tie.At-loop Inv-loop μ-loop → tie.Start Inv-loop μ-loop
+start l = l .before .before .before .before .before .before
 
 loop-holds : tie.Need-loop-holds Inv-loop μ-loop
 loop-holds c =
     let start = c .before .before .before .before .before in
-    (omega arith, refl, omega arith, refl, refl, top _ _ _ _ _ (start .pre .3) (λ t. no-type 8 _ t refl))
+    (omega arith, refl, omega arith, refl, refl, top _ _ _ _ _ (start .pre .4) (λ t. no-type 8 _ t refl))
 
 considers-requires : tie.Need-considers-requires Inv-loop μ-loop
 considers-requires c κs = search needs
 
 slice-aggregate-take-one : tie.Need-slice-aggregate-take-one Inv-loop μ-loop
-slice-aggregate-take-one c = sym (c .before .before .before .before .before .loop .inv .4)
+slice-aggregate-take-one c = let l = c .before .before .before .before .before in sym (l .loop .inv .4)
 
 take-one-requires : tie.Need-take-one-requires Inv-loop μ-loop
 take-one-requires c κs =
-    let at = c .before .before .before .before .before .loop .inv in
-    record { few = c .before .before .before .before .before .before .before .before .before .before .before .pre .0; types = at .4; within = c .before .before .before .before .loop-test .taken; placing = at .5 .placing }
+    let turn = c .before .before .before .before in
+    let l = turn .before in
+    record { few = start l .pre .0; types = l .loop .inv .4; within = turn .loop-test .taken; placing = l .loop .inv .5 .placing }
 
 add-n : tie.Need-add-n Inv-loop μ-loop
 add-n c = search needs
@@ -43,12 +47,13 @@ loop-less c = search needs
 
 loop-again : tie.Need-loop-again Inv-loop μ-loop
 loop-again c =
-    let k = c .before .before .before .loop in
-    let start = c .before .before .before .before .before .before .before .before .before in
-    let reserved = start .args .reserved .now in
-    let marks = start .args .marks .now in
-    let X = considersBy (start .args .offers .now) (start .args .steps .now) (start .args .wanted) in
-    let inside = c .before .before .loop-test .taken in
+    let turn = c .before .before in
+    let k = turn .before .loop in
+    let a = start (turn .before) .args in
+    let reserved = a .reserved .now in
+    let marks = a .marks .now in
+    let X = considersBy (a .offers .now) (a .steps .now) (a .code) in
+    let inside = turn .loop-test .taken in
     let d = k .inv .5 in
     ⊎-elim
     (λ w.

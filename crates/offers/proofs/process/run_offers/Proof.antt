@@ -1,21 +1,16 @@
 -- `offers::process::run_offers` meets its contract: the process starts from tables of zeros. Assumes nothing.
-use Prim.Native.Nat.{ℕ, _≤_}
+use Prim.Native.Nat.{ℕ}
 use mathlib.Core.Path.{sym, _∙_, ap}
 use mathlib.Core.List.{List}
 use native.Mathlib.Omega.{arith}
 use lib.ListN.{take}
 use lib.Seq.{length-take-le}
 use denote.Ref.{now}
-use Rattle.round.specs.declared.head.Head.{Head}
 use Rattle.choice.proofs.Steps.{take-replicate, sized}
-use Rattle.offers.specs.Held.{AtHand}
-use Rattle.offers.proofs.Turns.Known.{round-sound, candidates-many, cleared}
+use Rattle.offers.proofs.Sweeps.Known.{candidates-few, cleared}
 use borrow.Author.Needs.{needs}
 use Rattle.offers.proofs.process.run_offers.Statement.{statement}
 use Rattle.offers.proofs.process.run_offers.Tie as tie
-
-candidates-few : {file candidates merits : List ℕ} {h : Head} → AtHand file h candidates merits → h .candidates ≤ 512
-candidates-few at = omega (arith, candidates-many at, round-sound at .candidates-most)
 
 clear-requires : tie.Need-clear-requires
 clear-requires c κs = search needs
@@ -26,23 +21,47 @@ clear-requires-2 c κs = search needs
 zeros-requires : tie.Need-zeros-requires
 zeros-requires c κs = search needs
 
+zeros-requires-2 : tie.Need-zeros-requires-2
+zeros-requires-2 c κs = search needs
+
 array-borrow-prefix-tried : tie.Need-array-borrow-prefix-tried
-array-borrow-prefix-tried c = omega (arith, candidates-few (c .before .before .before .before .before .before .before .before .before .before .before .before .before .before .pre .0), sized 512 (c .zeros .ensures))
+array-borrow-prefix-tried c =
+    let made = c .before in
+    omega (arith, candidates-few (made .before .before .before .before .before .before .before .before .before .before .before .before .before .before .pre .0), sized 512 (made .zeros .ensures))
 
-slice-aggregate-take-turns : tie.Need-slice-aggregate-take-turns
-slice-aggregate-take-turns c = sym (length-take-le _ _ (omega (arith, candidates-few (c .before .before .before .before .before .before .before .before .before .before .before .before .before .before .before .pre .0), sized 512 (c .before .zeros .ensures))))
+slice-aggregate-sweep-all : tie.Need-slice-aggregate-sweep-all
+slice-aggregate-sweep-all c =
+    let made = c .before .before in
+    sym (length-take-le _ _ (omega (arith, candidates-few (made .before .before .before .before .before .before .before .before .before .before .before .before .before .before .pre .0), sized 512 (made .zeros .ensures))))
 
-take-turns-requires : tie.Need-take-turns-requires
-take-turns-requires c κs =
-    let a = c .before .before .before .before .before .before .before .before .before .before .before .before .before .before .before .before .before .args in
-    let pre = c .before .before .before .before .before .before .before .before .before .before .before .before .before .before .before .before .before .pre in (
-      pre .0,
+array-borrow-prefix-wanted : tie.Need-array-borrow-prefix-wanted
+array-borrow-prefix-wanted c =
+    let made = c .before .before in
+    omega (arith, candidates-few (made .before .before .before .before .before .before .before .before .before .before .before .before .before .before .before .pre .0), sized 512 (made .zeros2 .ensures))
+
+slice-aggregate-sweep-all-2 : tie.Need-slice-aggregate-sweep-all-2
+slice-aggregate-sweep-all-2 c =
+    let made = c .before .before .before in
+    sym (length-take-le _ _ (omega (arith, candidates-few (made .before .before .before .before .before .before .before .before .before .before .before .before .before .before .before .pre .0), sized 512 (made .zeros2 .ensures))))
+
+sweep-all-requires : tie.Need-sweep-all-requires
+sweep-all-requires c κs =
+    let made = c .before .before .before .before in
+    let cleared-both = made .before .before .before .before in
+    let start = cleared-both .before .before .before .before .before .before .before .before .before .before .before in
+    let a = start .args in
+    let few = candidates-few (start .pre .0) in (
+      start .pre .0,
       (
-        ap (λ (t : List ℕ). take (a .h .candidates) t) (c .before .before .before .zeros .ensures) ∙ take-replicate (a .h .candidates) 512 (candidates-few (pre .0)),
-        cleared _ (now (a .holders)) (pre .1 .0) (c .before .before .before .before .before .before .before .before .before .before .clear .ensures),
-        cleared _ (now (a .steps)) (pre .1 .1) (c .before .before .before .before .before .before .clear2 .ensures),
+        ap (λ (t : List ℕ). take (a .h .candidates) t) (made .before .zeros .ensures) ∙ take-replicate (a .h .candidates) 512 few,
+        cleared _ (now (a .holders)) (start .pre .1 .0) (cleared-both .before .before .before .before .clear .ensures),
+        cleared _ (now (a .steps)) (start .pre .1 .1) (cleared-both .clear2 .ensures),
+        length-take-le _ _ (omega (arith, few, sized 512 (made .zeros2 .ensures))),
       ),
     )
+
+settle-requires : tie.Need-settle-requires
+settle-requires c κs = search needs
 
 same-length : tie.Need-same-length
 same-length c = search needs
@@ -51,7 +70,9 @@ same-length-2 : tie.Need-same-length-2
 same-length-2 c = search needs
 
 returns : tie.Need-returns
-returns c = search needs
+returns c =
+    let done = c .before .before .before .before .before .before .before .before .before .before .before .sweep-all .ensures in
+    (done .0, rw (c .before .before .settle .ensures) (done .3))
 
 pub run-offers-spec : {M : Type 1} → statement M
 run-offers-spec =
@@ -60,9 +81,13 @@ run-offers-spec =
     clear-requires
     clear-requires-2
     zeros-requires
+    zeros-requires-2
     array-borrow-prefix-tried
-    slice-aggregate-take-turns
-    take-turns-requires
+    slice-aggregate-sweep-all
+    array-borrow-prefix-wanted
+    slice-aggregate-sweep-all-2
+    sweep-all-requires
+    settle-requires
     same-length
     same-length-2
     returns)

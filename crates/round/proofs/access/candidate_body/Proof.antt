@@ -12,10 +12,10 @@ shared-slice-read-body-at : tie.Need-shared-slice-read-body-at
 shared-slice-read-body-at c = search needs
 
 body-at-requires : tie.Need-body-at-requires
-body-at-requires c κs = candidate-there _ _ _ (c .before .before .before .pre)
+body-at-requires c κs = search candidate-there
 
 returns : tie.Need-returns
-returns c = candidate-read _ _ _ (c .before .before .before .before .pre) (c .body-at .ensures)
+returns c = search candidate-read
 
 pub candidate-body-spec : {M : Type 1} → statement M
 candidate-body-spec =

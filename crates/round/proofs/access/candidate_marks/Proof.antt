@@ -12,7 +12,7 @@ shared-slice-read-result : tie.Need-shared-slice-read-result
 shared-slice-read-result c = search needs
 
 returns : tie.Need-returns
-returns c = marks-of-body _ _ (c .before .candidate-body .ensures)
+returns c = search marks-of-body
 
 pub candidate-marks-spec : {M : Type 1} → statement M
 candidate-marks-spec =

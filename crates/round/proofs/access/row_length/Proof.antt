@@ -1,8 +1,8 @@
 -- `round::access::row_length` meets its contract: the entries of the body.
 -- Assumes nothing.
-use mathlib.Core.Path.{sym, _∙_}
 use Rattle.round.proofs.Bodies.{row-length}
 use borrow.Author.Needs.{needs}
+use native.Mathlib.Omega.{arith}
 use Rattle.round.proofs.access.row_length.Statement.{statement}
 use Rattle.round.proofs.access.row_length.Tie as tie
 
@@ -13,7 +13,7 @@ entry-count-requires : tie.Need-entry-count-requires
 entry-count-requires c κs = search needs
 
 returns : tie.Need-returns
-returns c = c .entry-count .ensures ∙ sym (row-length _ _ (c .before .candidate-body .ensures))
+returns c = omega (arith, row-length)
 
 pub row-length-spec : {M : Type 1} → statement M
 row-length-spec = tie.close (tie.spec candidate-body-requires entry-count-requires returns)

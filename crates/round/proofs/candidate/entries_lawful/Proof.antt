@@ -1,16 +1,13 @@
 -- `round::candidate::entries_lawful` meets its contract: each entry passed is lawful.
 -- Assumes nothing.
-use Rattle.round.specs.Questions.{entryCount}
 use borrow.Author.Needs.{needs}
-use Prim.Native.Nat.{ℕ, _≤_, _<_, _-_}
-use mathlib.Core.Path.{_≡_, refl, sym, ap, _∙_}
+use Prim.Native.Nat.{_≤_, _-_}
+use mathlib.Core.Path.{_≡_, refl}
 use mathlib.Core.Bool.{true}
 use native.Mathlib.Omega.{arith}
-use borrow.Author.Tests.{not-true, not-false}
-use denote.Ref.{now}
 use Rattle.round.specs.Lists.{all}
 use Rattle.round.specs.Read.{asHead, lawfulIn}
-use Rattle.round.proofs.Words.{all-step, all-no, reached}
+use Rattle.round.proofs.Words.{all-step, all-fails, all-end, was-no, was-yes}
 use Rattle.round.proofs.candidate.entries_lawful.Statement.{statement}
 use Rattle.round.proofs.candidate.entries_lawful.Tie as tie
 
@@ -30,11 +27,7 @@ entry-lawful-requires : tie.Need-entry-lawful-requires Inv-loop μ-loop
 entry-lawful-requires c κs = search needs
 
 returns : tie.Need-returns Inv-loop μ-loop
-returns c = let a = c .before .before .before .before .before .before .args in
-    let l = c .before .before .before .loop in
-    let below : l .k < entryCount (now (a .body)) = omega (arith, c .before .before .loop-test .taken, c .before .before .before .before .entry-count .ensures) in
-    sym (all-no _ (lawfulIn (asHead (a .h)) (now (a .body))) (l .k) below
-    (sym (c .before .entry-lawful .ensures) ∙ not-true _ (c .if1 .taken)))
+returns c = search (all-fails, was-no)
 
 add-k : tie.Need-add-k Inv-loop μ-loop
 add-k c = search needs
@@ -43,18 +36,10 @@ loop-less : tie.Need-loop-less Inv-loop μ-loop
 loop-less c = search needs
 
 loop-again : tie.Need-loop-again Inv-loop μ-loop
-loop-again c = let a = c .before .before .before .before .before .before .args in
-    let l = c .before .before .before .loop in (
-      omega arith,
-      all-step (lawfulIn (asHead (a .h)) (now (a .body))) (l .k) (l .inv .1)
-          (sym (c .before .entry-lawful .ensures) ∙ not-false _ (c .if1 .left)),
-    )
+loop-again c = (omega arith, search (all-step, was-yes))
 
 returns-2 : tie.Need-returns-2 Inv-loop μ-loop
-returns-2 c = let a = c .before .before .before .before .args in
-    let l = c .before .loop in
-    reached (λ n. all n (lawfulIn (asHead (a .h)) (now (a .body)))) (l .inv .0) (c .loop-test .left) (l .inv .1)
-    ∙ ap (λ (n : ℕ). all n (lawfulIn (asHead (a .h)) (now (a .body)))) (c .before .before .entry-count .ensures)
+returns-2 c = search all-end
 
 pub entries-lawful-spec : {M : Type 1} → statement M
 entries-lawful-spec =

@@ -1,7 +1,6 @@
 -- `round::candidate::entries_same` meets its contract: the two tests are those of the definition.
 -- Assumes nothing.
 use borrow.Author.Tests.{eq-eqb, ne-eqb}
-use mathlib.Core.Path.{refl}
 use Rattle.round.proofs.Words.{and-false, and-true}
 use borrow.Author.Needs.{needs}
 use Rattle.round.proofs.candidate.entries_same.Statement.{statement}
@@ -44,10 +43,10 @@ shared-slice-read-result-2 : tie.Need-shared-slice-read-result-2
 shared-slice-read-result-2 c = search needs
 
 returns : tie.Need-returns
-returns c = and-true (eq-eqb _ _ (c .before .before .if1 .taken)) refl
+returns c = search (and-true, eq-eqb)
 
 returns-2 : tie.Need-returns-2
-returns-2 c = and-false _ (ne-eqb _ _ (c .if1 .left))
+returns-2 c = search (and-false, ne-eqb)
 
 pub entries-same-spec : {M : Type 1} → statement M
 entries-same-spec =

@@ -2,13 +2,12 @@
 -- Assumes nothing.
 use borrow.Author.Needs.{needs}
 use Prim.Native.Nat.{_≤_, _-_}
-use mathlib.Core.Path.{_≡_, refl, sym, ap, _∙_}
+use mathlib.Core.Path.{_≡_, refl}
 use mathlib.Core.Bool.{true, not}
 use native.Mathlib.Omega.{arith}
-use denote.Ref.{now}
 use Rattle.round.specs.Lists.{all}
 use Rattle.round.specs.Read.{sameIn}
-use Rattle.round.proofs.Words.{all-step, all-no, reached}
+use Rattle.round.proofs.Words.{all-step, all-fails, all-end, not-yes, not-no}
 use Rattle.round.proofs.candidate.entry_fresh.Statement.{statement}
 use Rattle.round.proofs.candidate.entry_fresh.Tie as tie
 
@@ -25,10 +24,7 @@ entries-same-requires : tie.Need-entries-same-requires Inv-loop μ-loop
 entries-same-requires c κs = search needs
 
 returns : tie.Need-returns Inv-loop μ-loop
-returns c = let a = c .before .before .before .before .before .args in
-    let l = c .before .before .before .loop in
-    sym (all-no (a .l) (λ k. not (sameIn (now (a .body)) k (a .l))) (l .k) (c .before .before .loop-test .taken)
-    (ap not (sym (c .before .entries-same .ensures) ∙ c .if1 .taken)))
+returns c = search (all-fails, not-yes)
 
 add-k : tie.Need-add-k Inv-loop μ-loop
 add-k c = search needs
@@ -37,17 +33,10 @@ loop-less : tie.Need-loop-less Inv-loop μ-loop
 loop-less c = search needs
 
 loop-again : tie.Need-loop-again Inv-loop μ-loop
-loop-again c = let a = c .before .before .before .before .before .args in
-    let l = c .before .before .before .loop in (
-      omega arith,
-      all-step (λ k. not (sameIn (now (a .body)) k (a .l))) (l .k) (l .inv .1)
-          (ap not (sym (c .before .entries-same .ensures) ∙ c .if1 .left)),
-    )
+loop-again c = (omega arith, search (all-step, not-no))
 
 returns-2 : tie.Need-returns-2 Inv-loop μ-loop
-returns-2 c = let a = c .before .before .before .args in
-    let l = c .before .loop in
-    reached (λ n. all n (λ k. not (sameIn (now (a .body)) k (a .l)))) (l .inv .0) (c .loop-test .left) (l .inv .1)
+returns-2 c = search all-end
 
 pub entry-fresh-spec : {M : Type 1} → statement M
 entry-fresh-spec =

@@ -22,7 +22,7 @@ within-requires : tie.Need-within-requires
 within-requires c κs = search needs
 
 returns : tie.Need-returns
-returns c = and-false _ (within-no 1 _ (c .before .before .wide .ensures .0) (c .before .within .ensures) (c .if1 .taken))
+returns c = search (and-false, within-no)
 
 mul-if2 : tie.Need-mul-if2
 mul-if2 c = search needs
@@ -34,7 +34,7 @@ shared-slice-read-if2 : tie.Need-shared-slice-read-if2
 shared-slice-read-if2 c = search needs
 
 returns-2 : tie.Need-returns-2
-returns-2 c = and-true (within-yes 1 _ (c .before .before .before .before .wide .ensures .0) (c .before .before .before .within .ensures) (c .before .before .if1 .left)) (or-true _ (eq-eqb _ _ (c .if2 .taken)))
+returns-2 c = search (and-true, within-yes, or-true, eq-eqb)
 
 mul-result : tie.Need-mul-result
 mul-result c = search needs
@@ -49,7 +49,7 @@ shared-slice-read-result-2 : tie.Need-shared-slice-read-result-2
 shared-slice-read-result-2 c = search needs
 
 returns-3 : tie.Need-returns-3
-returns-3 c = and-true (within-yes 1 _ (c .before .before .before .before .before .before .wide .ensures .0) (c .before .before .before .before .before .within .ensures) (c .before .before .before .before .if1 .left)) (or-false (ne-eqb _ _ (c .before .before .if2 .left)))
+returns-3 c = search (and-true, within-yes, or-false, ne-eqb)
 
 pub entry-lawful-spec : {M : Type 1} → statement M
 entry-lawful-spec =

@@ -1,9 +1,6 @@
 -- `round::candidate::marks_lawful` meets its contract: the two tests are those of the definition.
 -- Assumes nothing.
-use Prim.Native.Nat.{ℕ}
-use mathlib.Core.Path.{ap₂}
-use lib.Dec.{ltb}
-use Rattle.round.proofs.Words.{and-false, and-true, leb-no, leb-yes}
+use Rattle.round.proofs.Words.{and-false, and-true, leb-no, leb-yes, ltb-both}
 use borrow.Author.Needs.{needs}
 use Rattle.round.proofs.candidate.marks_lawful.Statement.{statement}
 use Rattle.round.proofs.candidate.marks_lawful.Tie as tie
@@ -15,7 +12,7 @@ wide-requires : tie.Need-wide-requires
 wide-requires c κs = search needs
 
 returns : tie.Need-returns
-returns c = and-false _ (leb-no 4 (c .before .wide .ensures .0) (c .if1 .taken))
+returns c = search (and-false, leb-no)
 
 shared-slice-read-wide-2 : tie.Need-shared-slice-read-wide-2
 shared-slice-read-wide-2 c = search needs
@@ -27,8 +24,7 @@ mark-limit-requires : tie.Need-mark-limit-requires
 mark-limit-requires c κs = search needs
 
 returns-2 : tie.Need-returns-2
-returns-2 c = and-true (leb-yes 4 (c .before .before .before .before .wide .ensures .0) (c .before .before .before .if1 .left))
-    (ap₂ (λ (x y : ℕ). ltb x y) (c .before .wide2 .ensures .0) (c .mark-limit .ensures))
+returns-2 c = search (and-true, leb-yes, ltb-both)
 
 pub marks-lawful-spec : {M : Type 1} → statement M
 marks-lawful-spec =

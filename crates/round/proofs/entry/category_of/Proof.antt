@@ -1,6 +1,5 @@
 -- `round::entry::category_of` meets its contract: a number that is no code counts as open, as in the definition.
 -- Assumes nothing.
-use mathlib.Core.Path.{sym, _∙_}
 use Rattle.round.proofs.Codes.{unknown-open, known-category}
 use borrow.Author.Needs.{needs}
 use Rattle.round.proofs.entry.category_of.Statement.{statement}
@@ -16,10 +15,10 @@ enum-told : tie.Need-enum-told
 enum-told c = search needs
 
 returns : tie.Need-returns
-returns c = unknown-open (c .before .before .before .args .code) (sym (c .before .before .coded-by .ensures) ∙ c .enum-told .given .1)
+returns c = search unknown-open
 
 returns-2 : tie.Need-returns-2
-returns-2 c = known-category (c .before .before .before .before .args .code) (c .before .got .given .0 .0) (sym (c .before .before .before .coded-by .ensures) ∙ c .before .got .given .1)
+returns-2 c = search known-category
 
 pub category-of-spec : {M : Type 1} → statement M
 category-of-spec =

@@ -2,15 +2,14 @@
 -- Assumes nothing.
 use borrow.Author.Needs.{needs}
 use Prim.Native.Nat.{ℕ, _≤_, _-_}
-use mathlib.Core.Path.{_≡_, refl, sym}
+use mathlib.Core.Path.{_≡_, refl}
 use mathlib.Core.Bool.{Bool, true}
 use mathlib.Core.List.{List}
 use native.Mathlib.Omega.{arith}
 use lib.Dec.{leb}
-use denote.Ref.{now}
 use Rattle.round.specs.Lists.{all, sumOf}
 use Rattle.round.specs.Questions.{positionsIn, reservedIn}
-use Rattle.round.proofs.Words.{all-step, all-no, reached, leb-both-no, leb-both-yes}
+use Rattle.round.proofs.Words.{all-step, leb-both-no, leb-both-yes, all-fails, all-end}
 use Rattle.round.proofs.institute.reserved_fit.Statement.{statement}
 use Rattle.round.proofs.institute.reserved_fit.Tie as tie
 
@@ -34,10 +33,7 @@ reserved-sum-requires : tie.Need-reserved-sum-requires Inv-loop μ-loop
 reserved-sum-requires c κs = search needs
 
 returns : tie.Need-returns Inv-loop μ-loop
-returns c = let a = c .before .before .before .before .before .before .args in
-    let l = c .before .before .before .before .loop in
-    sym (all-no 5 (fits (a .types) (now (a .body))) (l .code) (c .before .before .before .loop-test .taken)
-    (leb-both-no (c .before .reserved-sum .ensures) (c .before .before .positions-in .ensures .0) (c .if1 .taken)))
+returns c = search (all-fails, leb-both-no)
 
 add-code : tie.Need-add-code Inv-loop μ-loop
 add-code c = search needs
@@ -46,17 +42,10 @@ loop-less : tie.Need-loop-less Inv-loop μ-loop
 loop-less c = search needs
 
 loop-again : tie.Need-loop-again Inv-loop μ-loop
-loop-again c = let a = c .before .before .before .before .before .before .args in
-    let l = c .before .before .before .before .loop in (
-      omega arith,
-      all-step (fits (a .types) (now (a .body))) (l .code) (l .inv .1)
-          (leb-both-yes (c .before .reserved-sum .ensures) (c .before .before .positions-in .ensures .0) (c .if1 .left)),
-    )
+loop-again c = (omega arith, search (all-step, leb-both-yes))
 
 returns-2 : tie.Need-returns-2 Inv-loop μ-loop
-returns-2 c = let a = c .before .before .before .args in
-    let l = c .before .loop in
-    reached (λ n. all n (fits (a .types) (now (a .body)))) (l .inv .0) (c .loop-test .left) (l .inv .1)
+returns-2 c = search all-end
 
 pub reserved-fit-spec : {M : Type 1} → statement M
 reserved-fit-spec =

@@ -1,8 +1,6 @@
 -- `round::institute::reserved_sum` meets its contract: the sum so far is that of the types passed, and small enough not to wrap.
 -- Assumes nothing.
-use denote.Ref.{now}
-use mathlib.Core.Path.{sym}
-use Rattle.round.proofs.Words.{sum-step, reached}
+use Rattle.round.proofs.Words.{sum-step, sum-end}
 use borrow.Author.Needs.{needs}
 use Prim.Native.Nat.{_≤_, _*_, _-_}
 use mathlib.Core.Path.{_≡_}
@@ -34,14 +32,10 @@ loop-less : tie.Need-loop-less Inv-loop μ-loop
 loop-less c = search needs
 
 loop-again : tie.Need-loop-again Inv-loop μ-loop
-loop-again c = let a = c .before .before .before .before .args in
-    let l = c .before .before .loop in
-    (omega arith, sum-step (reservedIn (a .types) (now (a .body)) (a .code)) (l .t) (l .inv .1) (c .reserved-in .ensures .0), omega arith)
+loop-again c = (omega arith, search sum-step, omega arith)
 
 returns : tie.Need-returns Inv-loop μ-loop
-returns c = let a = c .before .before .before .args in
-    let l = c .before .loop in
-    reached (λ n. sumOf n (reservedIn (a .types) (now (a .body)) (a .code))) (l .inv .0) (c .loop-test .left) (sym (l .inv .1))
+returns c = search sum-end
 
 pub reserved-sum-spec : {M : Type 1} → statement M
 reserved-sum-spec =

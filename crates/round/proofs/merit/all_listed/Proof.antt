@@ -2,13 +2,12 @@
 -- Assumes nothing.
 use borrow.Author.Needs.{needs}
 use Prim.Native.Nat.{_≤_, _-_}
-use mathlib.Core.Path.{_≡_, refl, sym}
+use mathlib.Core.Path.{_≡_, refl}
 use mathlib.Core.Bool.{true}
 use native.Mathlib.Omega.{arith}
-use denote.Ref.{now}
 use Rattle.round.specs.Lists.{all}
 use Rattle.round.specs.Questions.{within, meritIn}
-use Rattle.round.proofs.Words.{all-step, all-no, reached, within-no, within-yes}
+use Rattle.round.proofs.Words.{all-step, within-no, within-yes, all-fails, all-end}
 use Rattle.round.proofs.merit.all_listed.Statement.{statement}
 use Rattle.round.proofs.merit.all_listed.Tie as tie
 
@@ -28,10 +27,7 @@ within-requires : tie.Need-within-requires Inv-loop μ-loop
 within-requires c κs = search needs
 
 returns : tie.Need-returns Inv-loop μ-loop
-returns c = let a = c .before .before .before .before .before .before .args in
-    let l = c .before .before .before .before .loop in
-    sym (all-no _ (λ p. within 1 (a .candidates) (meritIn (now (a .body)) p)) (l .p) (c .before .before .before .loop-test .taken)
-    (within-no 1 (a .candidates) (c .before .before .merit-in .ensures) (c .before .within .ensures) (c .if1 .taken)))
+returns c = search (all-fails, within-no)
 
 add-p : tie.Need-add-p Inv-loop μ-loop
 add-p c = search needs
@@ -40,17 +36,10 @@ loop-less : tie.Need-loop-less Inv-loop μ-loop
 loop-less c = search needs
 
 loop-again : tie.Need-loop-again Inv-loop μ-loop
-loop-again c = let a = c .before .before .before .before .before .before .args in
-    let l = c .before .before .before .before .loop in (
-      omega arith,
-      all-step (λ p. within 1 (a .candidates) (meritIn (now (a .body)) p)) (l .p) (l .inv .1)
-          (within-yes 1 (a .candidates) (c .before .before .merit-in .ensures) (c .before .within .ensures) (c .if1 .left)),
-    )
+loop-again c = (omega arith, search (all-step, within-yes))
 
 returns-2 : tie.Need-returns-2 Inv-loop μ-loop
-returns-2 c = let a = c .before .before .before .args in
-    let l = c .before .loop in
-    reached (λ n. all n (λ p. within 1 (a .candidates) (meritIn (now (a .body)) p))) (l .inv .0) (c .loop-test .left) (l .inv .1)
+returns-2 c = search all-end
 
 pub all-listed-spec : {M : Type 1} → statement M
 all-listed-spec =

@@ -1,8 +1,7 @@
 -- `round::reader::read_rest` meets its contract: the three kinds in a row, put together (proofs/Rest.antt).
 -- Assumes nothing.
 use native.Mathlib.Omega.{arith}
-use denote.Ref.{now}
-use Rattle.round.proofs.Rest.{institutes-refused, rows-refused, lists-refused, more-refused, rest-read}
+use Rattle.round.proofs.Rest.{institutes-refused, rows-refused, lists-refused, more-refused, rest-read, part-inside}
 use borrow.Author.Needs.{needs}
 use Rattle.round.proofs.reader.read_rest.Statement.{statement}
 use Rattle.round.proofs.reader.read_rest.Tie as tie
@@ -20,11 +19,10 @@ handed-requires : tie.Need-handed-requires
 handed-requires c κs = search needs
 
 returns : tie.Need-returns
-returns c = let a = c .before .before .before .before .before .before .before .args in
-    institutes-refused (now (a .file)) (a .h) (a .from) (c .before .before .before .read-institutes .ensures) _ _ _ _ (c .handed .ensures) (c .before .enum-told .given .1)
+returns c = search institutes-refused
 
 read-kind-requires : tie.Need-read-kind-requires
-read-kind-requires c κs = (c .before .before .before .before .before .before .before .before .pre .0, (c .before .before .before .before .read-institutes .ensures .inside _ (c .before .before .institutes .given .1), omega (arith, c .before .before .before .before .before .before .before .before .pre .0 .candidates-most, c .before .before .before .before .before .before .before .before .pre .0 .institutes-most, c .before .before .before .before .before .before .before .before .pre .1 .1 .0, c .before .before .before .before .before .before .before .before .pre .1 .1 .1)))
+read-kind-requires c κs = (search, (search part-inside, omega arith))
 
 enum-known-rows : tie.Need-enum-known-rows
 enum-known-rows c = search needs
@@ -39,11 +37,10 @@ same-length : tie.Need-same-length
 same-length c = search needs
 
 returns-2 : tie.Need-returns-2
-returns-2 c = let a = c .before .before .before .before .before .before .before .before .before .before .before .before .before .before .args in
-    rows-refused (now (a .file)) (a .h) (a .from) (c .before .before .before .before .before .before .before .before .before .before .read-institutes .ensures) (c .before .before .before .before .before .before .before .before .institutes .given .1) (c .before .before .before .before .before .read-kind .ensures) _ _ (c .handed2 .ensures) (c .before .enum-told2 .given .1)
+returns-2 c = search rows-refused
 
 read-kind-requires-2 : tie.Need-read-kind-requires-2
-read-kind-requires-2 c κs = (c .before .before .before .before .before .before .before .before .before .before .before .before .before .before .before .pre .0, (c .before .before .before .before .before .before .read-kind .ensures .part .inside _ (c .before .before .rows .given .1), omega (arith, c .before .before .before .before .before .before .before .before .before .before .before .before .before .before .before .pre .0 .candidates-most, c .before .before .before .before .before .before .before .before .before .before .before .before .before .before .before .pre .0 .institutes-most, c .before .before .before .before .before .before .before .before .before .before .before .before .before .before .before .pre .1 .1 .0, c .before .before .before .before .before .before .before .before .before .before .before .before .before .before .before .pre .1 .1 .1)))
+read-kind-requires-2 c κs = (search, (search part-inside, omega arith))
 
 enum-known-lists : tie.Need-enum-known-lists
 enum-known-lists c = search needs
@@ -61,8 +58,7 @@ same-length-3 : tie.Need-same-length-3
 same-length-3 c = search needs
 
 returns-3 : tie.Need-returns-3
-returns-3 c = let a = c .before .before .before .before .before .before .before .before .before .before .before .before .before .before .before .before .before .before .before .before .before .args in
-    lists-refused (now (a .file)) (a .h) (a .from) (c .before .before .before .before .before .before .before .before .before .before .before .before .before .before .before .before .before .read-institutes .ensures) (c .before .before .before .before .before .before .before .before .before .before .before .before .before .before .before .institutes .given .1) (c .before .before .before .before .before .before .before .before .before .before .before .before .read-kind .ensures) (c .before .before .before .before .before .before .before .before .rows .given .1) (c .before .before .before .before .before .read-kind2 .ensures) (c .handed3 .ensures) (c .before .enum-told3 .given .1)
+returns-3 c = search lists-refused
 
 same-length-4 : tie.Need-same-length-4
 same-length-4 c = search needs
@@ -71,9 +67,7 @@ same-length-5 : tie.Need-same-length-5
 same-length-5 c = search needs
 
 returns-4 : tie.Need-returns-4
-returns-4 c = let a = c .before .before .before .before .before .before .before .before .before .before .before .before .before .before .before .before .before .before .before .before .before .before .args in
-    rest-read (now (a .file)) (a .h) (a .from) (c .before .before .before .before .before .before .before .before .before .before .before .before .before .before .before .before .before .before .read-institutes .ensures) (c .before .before .before .before .before .before .before .before .before .before .before .before .before .before .before .before .institutes .given .1) (c .before .before .before .before .before .before .before .before .before .before .before .before .before .read-kind .ensures) (c .before .before .before .before .before .before .before .before .before .rows .given .1) (c .before .before .before .before .before .before .read-kind2 .ensures) (c .before .before .lists .given .1) (c .if1 .taken)
-    (omega (arith, c .before .before .before .before .before .before .before .before .before .before .before .before .before .before .before .before .before .before .before .before .before .before .pre .0 .candidates-most, c .before .before .before .before .before .before .before .before .before .before .before .before .before .before .before .before .before .before .before .before .before .before .pre .0 .institutes-most, c .before .before .before .before .before .before .before .before .before .before .before .before .before .before .before .before .before .before .before .before .before .before .pre .1 .1 .0, c .before .before .before .before .before .before .before .before .before .before .before .before .before .before .before .before .before .before .before .before .before .before .pre .1 .1 .1, c .before .before .before .before .before .before .before .before .before .before .before .before .before .read-kind .kept)) (omega (arith, c .before .before .before .before .before .before .before .before .before .before .before .before .before .before .before .before .before .before .before .before .before .before .pre .0 .candidates-most, c .before .before .before .before .before .before .before .before .before .before .before .before .before .before .before .before .before .before .before .before .before .before .pre .0 .institutes-most, c .before .before .before .before .before .before .before .before .before .before .before .before .before .before .before .before .before .before .before .before .before .before .pre .1 .1 .0, c .before .before .before .before .before .before .before .before .before .before .before .before .before .before .before .before .before .before .before .before .before .before .pre .1 .1 .1, c .before .before .before .before .before .before .read-kind2 .kept))
+returns-4 c = search rest-read
 
 same-length-6 : tie.Need-same-length-6
 same-length-6 c = search needs
@@ -82,8 +76,7 @@ same-length-7 : tie.Need-same-length-7
 same-length-7 c = search needs
 
 returns-5 : tie.Need-returns-5
-returns-5 c = let a = c .before .before .before .before .before .before .before .before .before .before .before .before .before .before .before .before .before .before .before .before .before .before .args in
-    more-refused (now (a .file)) (a .h) (a .from) (c .before .before .before .before .before .before .before .before .before .before .before .before .before .before .before .before .before .before .read-institutes .ensures) (c .before .before .before .before .before .before .before .before .before .before .before .before .before .before .before .before .institutes .given .1) (c .before .before .before .before .before .before .before .before .before .before .before .before .before .read-kind .ensures) (c .before .before .before .before .before .before .before .before .before .rows .given .1) (c .before .before .before .before .before .before .read-kind2 .ensures) (c .before .before .lists .given .1) (c .if1 .left)
+returns-5 c = search more-refused
 
 pub read-rest-spec : {M : Type 1} → statement M
 read-rest-spec =

@@ -1,20 +1,8 @@
 -- `round::records::find_record` meets its contract: the tests come in the order of the questions.
 -- Assumes nothing.
-use Prim.Native.Nat.{ℕ, _+_, _≤_}
-use mathlib.Core.Path.{_≡_, refl, sym, ap, _∙_}
-use mathlib.Core.Bool.{true, false}
-use native.Mathlib.Omega.{arith}
-use lib.Dec.{leb, eqb}
-use lib.ListN.{length}
-use borrow.Author.Tests.{eq-eqb, ne-eqb, le-leb, lt-leb, not-true, not-false}
-use denote.Ref.{now}
-use Rattle.round.specs.Records.{lengthAt, kindAt, nextAt}
-use Rattle.round.specs.Questions.{lengthAllowed}
-use Rattle.round.specs.Read.{asHead}
-use Rattle.round.specs.Parts.{partBy}
-use Rattle.round.specs.declared.records.Part.the-variants.{Lawful}
-use Rattle.round.proofs.Words.{ask-no, ask-yes}
+use Rattle.round.proofs.Words.{cond-no, cond-yes}
 use borrow.Author.Needs.{needs}
+use Rattle.round.proofs.Found.{refused-by, lawful-by, allowed-no, allowed-yes, lead-no, lead-there, kind-no, kind-due, body-no, body-there}
 use Rattle.round.proofs.records.find_record.Statement.{statement}
 use Rattle.round.proofs.records.find_record.Tie as tie
 
@@ -22,11 +10,7 @@ sub-if1 : tie.Need-sub-if1
 sub-if1 c = search needs
 
 returns : tie.Need-returns
-returns c = let a = c .before .before .args in
-    let file = now (a .file) in
-    let inside = c .before .before .pre .1 in
-    let q1 : leb (a .at + 4) (length file) ≡ false = lt-leb (a .at + 4) (length file) (omega (arith, inside, c .if1 .taken)) in
-    ap (λ (n : ℕ). partBy n (a .at) (nextAt file (a .at))) (ask-no _ 1 q1)
+returns c = search (refused-by, cond-no, lead-no)
 
 add-word : tie.Need-add-word
 add-word c = search needs
@@ -35,12 +19,7 @@ word-requires : tie.Need-word-requires
 word-requires c κs = search needs
 
 returns-2 : tie.Need-returns-2
-returns-2 c = let a = c .before .before .before .before .args in
-    let file = now (a .file) in
-    let inside = c .before .before .before .before .pre .1 in
-    let q1 : leb (a .at + 4) (length file) ≡ true = le-leb (a .at + 4) (length file) (omega (arith, inside, c .before .before .if1 .left)) in
-    let q2 : eqb (kindAt file (a .at)) (a .kind) ≡ false = ne-eqb _ _ (λ e. c .if2 .taken (c .before .word .ensures .0 ∙ e)) in
-    ap (λ (n : ℕ). partBy n (a .at) (nextAt file (a .at))) (ask-yes _ 1 q1 (ask-no _ 2 q2))
+returns-2 c = search (refused-by, cond-no, cond-yes, lead-there, kind-no)
 
 word-requires-2 : tie.Need-word-requires-2
 word-requires-2 c κs = search needs
@@ -49,14 +28,7 @@ length-allowed-requires : tie.Need-length-allowed-requires
 length-allowed-requires c κs = search needs
 
 returns-3 : tie.Need-returns-3
-returns-3 c = let a = c .before .before .before .before .before .before .before .args in
-    let file = now (a .file) in
-    let inside = c .before .before .before .before .before .before .before .pre .1 in
-    let q1 : leb (a .at + 4) (length file) ≡ true = le-leb (a .at + 4) (length file) (omega (arith, inside, c .before .before .before .before .before .if1 .left)) in
-    let q2 : eqb (kindAt file (a .at)) (a .kind) ≡ true = eq-eqb _ _ (sym (c .before .before .before .before .word .ensures .0) ∙ c .before .before .before .if2 .left) in
-    let q3 : lengthAllowed (asHead (a .h)) (a .kind) (lengthAt file (a .at)) ≡ false =
-    ap (lengthAllowed (asHead (a .h)) (a .kind)) (sym (c .before .before .word2 .ensures .0)) ∙ (sym (c .before .length-allowed .ensures) ∙ not-true _ (c .if3 .taken)) in
-    ap (λ (n : ℕ). partBy n (a .at) (nextAt file (a .at))) (ask-yes _ 1 q1 (ask-yes _ 2 q2 (ask-no _ 3 q3)))
+returns-3 c = search (refused-by, cond-no, cond-yes, lead-there, kind-due, allowed-no)
 
 add-start : tie.Need-add-start
 add-start c = search needs
@@ -65,32 +37,13 @@ sub-if4 : tie.Need-sub-if4
 sub-if4 c = search needs
 
 returns-4 : tie.Need-returns-4
-returns-4 c = let a = c .before .before .before .before .before .before .before .before .args in
-    let file = now (a .file) in
-    let inside = c .before .before .before .before .before .before .before .before .pre .1 in
-    let q1 : leb (a .at + 4) (length file) ≡ true = le-leb (a .at + 4) (length file) (omega (arith, inside, c .before .before .before .before .before .before .if1 .left)) in
-    let q2 : eqb (kindAt file (a .at)) (a .kind) ≡ true = eq-eqb _ _ (sym (c .before .before .before .before .before .word .ensures .0) ∙ c .before .before .before .before .if2 .left) in
-    let q3 : lengthAllowed (asHead (a .h)) (a .kind) (lengthAt file (a .at)) ≡ true =
-    ap (lengthAllowed (asHead (a .h)) (a .kind)) (sym (c .before .before .before .word2 .ensures .0)) ∙ (sym (c .before .before .length-allowed .ensures) ∙ not-false _ (c .before .if3 .left)) in
-    let q1-fact : a .at + 4 ≤ length file = omega (arith, inside, c .before .before .before .before .before .before .if1 .left) in
-    let q4 : leb (a .at + 4 + lengthAt file (a .at)) (length file) ≡ false = lt-leb (a .at + 4 + lengthAt file (a .at)) (length file) (omega (arith, inside, q1-fact, c .before .before .before .word2 .ensures .0, c .if4 .taken)) in
-    ap (λ (n : ℕ). partBy n (a .at) (nextAt file (a .at))) (ask-yes _ 1 q1 (ask-yes _ 2 q2 (ask-yes _ 3 q3 (ask-no _ 4 q4))))
+returns-4 c = search (refused-by, cond-no, cond-yes, lead-there, kind-due, allowed-yes, body-no) depth 6
 
 add-t7 : tie.Need-add-t7
 add-t7 c = search needs
 
 returns-5 : tie.Need-returns-5
-returns-5 c = let a = c .before .before .before .before .before .before .before .before .args in
-    let file = now (a .file) in
-    let inside = c .before .before .before .before .before .before .before .before .pre .1 in
-    let q1 : leb (a .at + 4) (length file) ≡ true = le-leb (a .at + 4) (length file) (omega (arith, inside, c .before .before .before .before .before .before .if1 .left)) in
-    let q2 : eqb (kindAt file (a .at)) (a .kind) ≡ true = eq-eqb _ _ (sym (c .before .before .before .before .before .word .ensures .0) ∙ c .before .before .before .before .if2 .left) in
-    let q3 : lengthAllowed (asHead (a .h)) (a .kind) (lengthAt file (a .at)) ≡ true =
-    ap (lengthAllowed (asHead (a .h)) (a .kind)) (sym (c .before .before .before .word2 .ensures .0)) ∙ (sym (c .before .before .length-allowed .ensures) ∙ not-false _ (c .before .if3 .left)) in
-    let q1-fact : a .at + 4 ≤ length file = omega (arith, inside, c .before .before .before .before .before .before .if1 .left) in
-    let q4 : leb (a .at + 4 + lengthAt file (a .at)) (length file) ≡ true = le-leb (a .at + 4 + lengthAt file (a .at)) (length file) (omega (arith, inside, q1-fact, c .before .before .before .word2 .ensures .0, c .if4 .left)) in
-    ap (λ (n : ℕ). Lawful (a .at + 4 + n)) (c .before .before .before .word2 .ensures .0)
-    ∙ ap (λ (n : ℕ). partBy n (a .at) (nextAt file (a .at))) (ask-yes _ 1 q1 (ask-yes _ 2 q2 (ask-yes _ 3 q3 (ask-yes _ 4 q4 refl))))
+returns-5 c = search (lawful-by, cond-yes, lead-there, kind-due, allowed-yes, body-there) depth 6
 
 pub find-record-spec : {M : Type 1} → statement M
 find-record-spec =

@@ -1,14 +1,13 @@
 -- `round::records::length_allowed` meets its contract: the tests go by kind as the definition does.
 -- Assumes nothing.
-use mathlib.Core.Path.{refl, sym, _∙_}
-use borrow.Author.Tests.{eq-eqb, ne-eqb, le-leb, lt-leb, not-true, not-false}
-use Rattle.round.proofs.Words.{and-false, and-true, cond-yes, cond-no}
+use borrow.Author.Tests.{eq-eqb, ne-eqb, le-leb, lt-leb}
+use Rattle.round.proofs.Words.{and-false, and-true, cond-yes, cond-no, was-no, was-yes}
 use borrow.Author.Needs.{needs}
 use Rattle.round.proofs.records.length_allowed.Statement.{statement}
 use Rattle.round.proofs.records.length_allowed.Tie as tie
 
 returns : tie.Need-returns
-returns c = cond-yes _ _ (eq-eqb _ _ (c .if1 .taken)) refl
+returns c = search (cond-yes, eq-eqb)
 
 mul-result : tie.Need-mul-result
 mul-result c = search needs
@@ -17,29 +16,25 @@ add-result : tie.Need-add-result
 add-result c = search needs
 
 returns-2 : tie.Need-returns-2
-returns-2 c = cond-no _ _ (ne-eqb _ _ (c .before .before .if1 .left)) (cond-yes _ _ (eq-eqb _ _ (c .before .if2 .taken)) refl)
+returns-2 c = search (cond-yes, cond-no, eq-eqb, ne-eqb)
 
 within-requires : tie.Need-within-requires
 within-requires c κs = search needs
 
 returns-3 : tie.Need-returns-3
-returns-3 c = cond-no _ _ (ne-eqb _ _ (c .before .before .before .before .if1 .left)) (cond-no _ _ (ne-eqb _ _ (c .before .before .before .if2 .left))
-    (cond-yes _ _ (eq-eqb _ _ (c .before .before .if3 .taken)) (and-false _ (sym (c .before .within .ensures) ∙ not-true _ (c .if4 .taken)))))
+returns-3 c = search (cond-yes, cond-no, eq-eqb, ne-eqb, and-false, was-no)
 
 returns-4 : tie.Need-returns-4
-returns-4 c = cond-no _ _ (ne-eqb _ _ (c .before .before .before .before .if1 .left)) (cond-no _ _ (ne-eqb _ _ (c .before .before .before .if2 .left))
-    (cond-yes _ _ (eq-eqb _ _ (c .before .before .if3 .taken)) (and-true (sym (c .before .within .ensures) ∙ not-false _ (c .if4 .left)) refl)))
+returns-4 c = search (cond-yes, cond-no, eq-eqb, ne-eqb, and-true, was-yes)
 
 mul-if5 : tie.Need-mul-if5
 mul-if5 c = search needs
 
 returns-5 : tie.Need-returns-5
-returns-5 c = cond-no _ _ (ne-eqb _ _ (c .before .before .before .before .if1 .left)) (cond-no _ _ (ne-eqb _ _ (c .before .before .before .if2 .left))
-    (cond-no _ _ (ne-eqb _ _ (c .before .before .if3 .left)) (and-false _ (lt-leb _ _ (c .if5 .taken)))))
+returns-5 c = search (cond-no, ne-eqb, and-false, lt-leb)
 
 returns-6 : tie.Need-returns-6
-returns-6 c = cond-no _ _ (ne-eqb _ _ (c .before .before .before .before .if1 .left)) (cond-no _ _ (ne-eqb _ _ (c .before .before .before .if2 .left))
-    (cond-no _ _ (ne-eqb _ _ (c .before .before .if3 .left)) (and-true (le-leb _ _ (c .if5 .left)) refl)))
+returns-6 c = search (cond-no, ne-eqb, and-true, le-leb)
 
 pub length-allowed-spec : {M : Type 1} → statement M
 length-allowed-spec =

@@ -1,12 +1,8 @@
 -- `round::word::word` meets its contract: the two bytes make the number, and each is below 256.
 -- Assumes nothing.
-use Prim.Native.Nat.{ℕ, suc}
-use mathlib.Core.Path.{_≡_, ap, _∙_}
 use native.Mathlib.Omega.{arith}
-use native.Mathlib.Numerals.{add-one}
-use denote.Ref.{now}
-use lib.ListN.{getD}
 use borrow.Author.Needs.{needs}
+use Rattle.round.proofs.Words.{word-read}
 use Rattle.round.proofs.word.word.Statement.{statement}
 use Rattle.round.proofs.word.word.Tie as tie
 
@@ -26,15 +22,13 @@ wide-requires-2 : tie.Need-wide-requires-2
 wide-requires-2 c κs = search needs
 
 mul-result : tie.Need-mul-result
-mul-result c = omega arith
+mul-result c = search needs
 
 add-result : tie.Need-add-result
-add-result c = omega arith
+add-result c = search needs
 
 returns : tie.Need-returns
-returns c = let a = c .before .before .before .before .before .args in
-    let e : c .wide2 .result ≡ getD (now (a .s)) (suc (a .i)) 0 = c .wide2 .ensures .0 ∙ ap (λ (k : ℕ). getD (now (a .s)) k 0) (add-one (a .i)) in
-    omega (arith, c .before .before .wide .ensures .0)
+returns c = (search word-read, omega arith)
 
 pub word-spec : {M : Type 1} → statement M
 word-spec =

@@ -1,0 +1,141 @@
+-- Listing the offers at the places of a merit list, one place after the other.
+use Prim.Native.Nat.{ℕ, zero, suc, _+_, _-_, _≤_, _<_}
+use mathlib.Core.Path.{_≡_, refl, sym, _∙_, ap}
+use mathlib.Core.Bool.{Bool, true, false, not}
+use mathlib.Core.List.{List}
+use mathlib.Core.Logic.{_≢_}
+use native.Mathlib.Omega.{arith}
+use native.Mathlib.Decide.{decLt, ℕ-discrete}
+use native.Mathlib.Numerals.{add-one}
+use lib.ListN.{length, set, take, length-set}
+use lib.Seq.{getD-set-same, getD-set-other, getD-take}
+use borrow.Author.Tests.{eq-eqb, ne-eqb}
+use Rattle.round.specs.Lists.{count}
+use Rattle.round.specs.Round.{Round}
+use Rattle.round.specs.Places.{candidateAt, instituteAt, meritAt}
+use Rattle.round.specs.Reading.{roundOf}
+use Rattle.choice.specs.Gathers.{Gathers}
+use Rattle.choice.proofs.Counting.{test, clash, bit-true, bit-false, bit-max}
+use Rattle.choice.proofs.Fewer.{number-below}
+use Rattle.offers.specs.Offers.{candidateOn}
+use Rattle.offers.specs.Sweeps.{offerTo, marksOf, offersAt, Gathered}
+
+module _ (X : ℕ → Bool) where
+  pub count-most : (p : ℕ) → count p X ≤ p
+  count-most zero = omega arith
+  count-most (suc p) = omega (arith, bit-max (X p), count-most p)
+
+  -- one more place of the set is gathered
+  gathers-in : (f : ℕ → ℕ) (l : List ℕ) (k p v : ℕ) → k ≡ count p X → k < length l → X p ≡ true → v ≡ f p → Gathers X p f l → Gathers X (p + 1) f (set l k v)
+  gathers-in f l k p v e b x ev g q m y = elim (ℕ-discrete q p) [
+    | yes s ↦ rw (s, ← e, getD-set-same l k v 0 b) ev
+    | no d ↦ getD-set-other l k (count q X) v 0 (λ s. omega (arith, number-below X q p (omega arith) y)) ∙ g q (omega arith) y
+  ]
+
+  -- a place that is not in the set is passed
+  gathers-out : (f : ℕ → ℕ) (l : List ℕ) (p : ℕ) → X p ≡ false → Gathers X p f l → Gathers X (p + 1) f l
+  gathers-out f l p x g q m y = elim (ℕ-discrete q p) [
+    | yes s ↦ absurd (clash (ap X (sym s) ∙ y) x)
+    | no d ↦ g q (omega arith) y
+  ]
+
+  -- the gathered stand at the front of the list
+  pub gathers-front : (n : ℕ) (f : ℕ → ℕ) (l : List ℕ) (k : ℕ) → k ≡ count n X → Gathers X n f l → Gathers X n f (take k l)
+  gathers-front n f l k e g p m x = getD-take k l (count p X) 0 (omega (arith, number-below X p n m x)) ∙ g p m x
+
+  -- each number below the count is that of a place of the set
+  pub place-at : (n q : ℕ) → q < count n X → (p : ℕ) × (p < n) × (X p ≡ true) × (count p X ≡ q)
+  place-at zero q l = absurd (omega arith)
+  place-at (suc n) q l = elim (decLt q (count n X)) [
+    | yes b ↦ let (p, m, x, at) = place-at n q b in (p, omega arith, x, at)
+    | no b ↦
+        test (X n) (λ x. (n, omega arith, x, omega (arith, bit-true (X n) x)))
+        (λ x. absurd (omega (arith, bit-false (X n) x)))
+  ]
+
+module _ (r : Round) (j : ℕ) (offer : ℕ → ℕ) where
+  -- where the listing stands at place p
+  pub record Gathering (who₀ marks₀ offers₀ who marks offers : List ℕ) (k p : ℕ) : Type 0 where
+    pub who-sized : length who ≡ length who₀
+    pub marks-sized : length marks ≡ length marks₀
+    pub offers-sized : length offers ≡ length offers₀
+    pub most : k ≤ p
+    pub so-far : Gathered r j offer p who marks offers k
+
+  module _ {who₀ marks₀ offers₀ : List ℕ} where
+    pub none-gathered : Gathering who₀ marks₀ offers₀ who₀ marks₀ offers₀ 0 0
+    none-gathered = record {
+      who-sized = refl;
+      marks-sized = refl;
+      offers-sized = refl;
+      most = omega arith;
+      so-far = record {
+        number = refl;
+        who-at = λ p l. absurd (omega arith);
+        marks-at = λ p l. absurd (omega arith);
+        offers-at = λ p l. absurd (omega arith);
+      };
+    }
+
+    module _ {who marks offers : List ℕ} {k p : ℕ} (s : Gathering who₀ marks₀ offers₀ who marks offers k p) where
+      -- there is room for the next offer
+      pub room : {n : ℕ} → p < n → (n ≤ length who₀) × (n ≤ length marks₀) × (n ≤ length offers₀)
+          → (k < length who) × (k < length marks) × (k < length offers)
+      room l (w, m, o) = (omega (arith, s .who-sized, s .most), omega (arith, s .marks-sized, s .most), omega (arith, s .offers-sized, s .most))
+
+      -- the candidate at the place has an offer
+      pub one-gathered : {c m o : ℕ} → (k < length who) × (k < length marks) × (k < length offers)
+          → c ≡ candidateOn r j p → m ≡ marksOf r (candidateOn r j p) → o ≡ offer (candidateOn r j p) → o ≢ 0
+          → {who' marks' offers' : List ℕ} {k' : ℕ} → who' ≡ set who k c → marks' ≡ set marks k m → offers' ≡ set offers k o → k' ≡ k + 1
+          → Gathering who₀ marks₀ offers₀ who' marks' offers' k' (p + 1)
+      one-gathered {c} {m} {o} (lw, lm, lo) ec em eo d ew ems eos ek =
+          let X : ℕ → Bool = offersAt r j offer in
+          let g = s .so-far in
+          let x : X p ≡ true = ap not (ne-eqb (offer (candidateOn r j p)) 0 (λ z. d (eo ∙ z))) in
+          rw (ew, ems, eos, ek)
+          record {
+            who-sized = length-set who k c ∙ s .who-sized;
+            marks-sized = length-set marks k m ∙ s .marks-sized;
+            offers-sized = length-set offers k o ∙ s .offers-sized;
+            most = omega (arith, s .most);
+            so-far = record {
+              number = let e : p + 1 ≡ suc p = omega arith in rw e (omega (arith, g .number, bit-true (X p) x));
+              who-at = gathers-in X _ who k p c (g .number) lw x ec (g .who-at);
+              marks-at = gathers-in X _ marks k p m (g .number) lm x em (g .marks-at);
+              offers-at = gathers-in X _ offers k p o (g .number) lo x eo (g .offers-at);
+            };
+          }
+
+      -- the candidate at the place has none
+      pub one-passed : {o : ℕ} → o ≡ offer (candidateOn r j p) → o ≡ 0
+          → {who' marks' offers' : List ℕ} {k' : ℕ} → who' ≡ who → marks' ≡ marks → offers' ≡ offers → k' ≡ k
+          → Gathering who₀ marks₀ offers₀ who' marks' offers' k' (p + 1)
+      one-passed eo z ew ems eos ek =
+          let X : ℕ → Bool = offersAt r j offer in
+          let g = s .so-far in
+          let x : X p ≡ false = ap not (eq-eqb (offer (candidateOn r j p)) 0 (sym eo ∙ z)) in
+          rw (ew, ems, eos, ek)
+          record {
+            who-sized = s .who-sized;
+            marks-sized = s .marks-sized;
+            offers-sized = s .offers-sized;
+            most = omega (arith, s .most);
+            so-far = record {
+              number = let e : p + 1 ≡ suc p = omega arith in rw e (omega (arith, g .number, bit-false (X p) x));
+              who-at = gathers-out X _ who p x (g .who-at);
+              marks-at = gathers-out X _ marks p x (g .marks-at);
+              offers-at = gathers-out X _ offers p x (g .offers-at);
+            };
+          }
+
+-- the marks of the candidate whose number was read
+pub marks-read : (file : List ℕ) (j p : ℕ) {number x : ℕ} → number ≡ meritAt (instituteAt (roundOf file) j) p → x ≡ candidateAt (roundOf file) (number - 1) .marks
+    → x ≡ marksOf (roundOf file) (candidateOn (roundOf file) j p)
+unfolding marksOf
+marks-read file j p e d = d ∙ ap (λ n. candidateAt (roundOf file) (n - 1) .marks) e
+
+-- the offer of the candidate whose number was read
+pub offer-read : (r : Round) (j : ℕ) (asked wanted : List ℕ) (p : ℕ) {number x : ℕ} → number ≡ meritAt (instituteAt r j) p
+    → x ≡ offerTo (j + 1) asked wanted (number - 1)
+    → x ≡ offerTo (suc j) asked wanted (candidateOn r j p)
+offer-read r j asked wanted p e d = d ∙ rw (add-one j, e)

@@ -1,0 +1,88 @@
+// The second half of a sweep: each institute that got an offer chooses from the entries tried last that name it.
+use crate::gather::gather;
+use crate::scatter::scatter;
+use crate::table::no_rules;
+use crate::table::nobody;
+use crate::table::zeros;
+use choice::choose;
+use round::access::institute_body;
+use round::head::Head;
+use round::rules::rules_of;
+ghost use mathlib.Core.Path.{_≡_};
+ghost use Prim.Native.Nat.{_≤_, _<_};
+ghost use lib.ListN.{length};
+ghost use Rattle.round.specs.Reading.{roundOf};
+ghost use Rattle.offers.specs.Held.{AtHand};
+ghost use Rattle.offers.specs.Sweeps.{ChosenAnew, ChosenAll};
+
+// Institute j, from 0, chooses.
+fn choose_anew(
+    file: &[u8],
+    h: Head,
+    candidates: &[usize],
+    merits: &[usize],
+    j: usize,
+    asked: &[u8],
+    wanted: &[u8],
+    steps: &mut [u8],
+)
+    requires { ⌜ AtHand (now file) h (now candidates) (now merits) ⌝ }
+    requires { ⌜ j < h .institutes ⌝ }
+    requires { ⌜ (length (now asked) ≡ h .candidates) × (length (now wanted) ≡ h .candidates) × (length (now steps) ≡ h .candidates) ⌝ }
+    ensures { λ _. ⌜ ChosenAnew (roundOf (now (file .entry))) j (now (asked .entry)) (now (wanted .entry))
+        (now (steps .entry)) (now (steps .exit)) ⌝ }
+{
+    let mut who = nobody();
+    let mut marks = zeros();
+    let mut offers = zeros();
+    let mut chosen = zeros();
+    let mut rules = no_rules();
+    let k = gather(
+        file,
+        candidates,
+        merits,
+        j,
+        asked,
+        wanted,
+        &mut who,
+        &mut marks,
+        &mut offers,
+    );
+    let body = institute_body(file, h, j);
+    let count = rules_of(body, h.types, h.policy, &mut rules);
+    choose(
+        &rules,
+        h.types,
+        count,
+        &marks[..k],
+        &offers[..k],
+        &mut chosen[..k],
+    );
+    scatter(&who[..k], &chosen[..k], steps);
+}
+
+// Each institute that got an offer chooses, and is then one that got none.
+pub fn choose_all(
+    file: &[u8],
+    h: Head,
+    candidates: &[usize],
+    merits: &[usize],
+    asked: &[u8],
+    wanted: &[u8],
+    fresh: &mut [u8],
+    steps: &mut [u8],
+)
+    requires { ⌜ AtHand (now file) h (now candidates) (now merits) ⌝ }
+    requires { ⌜ (length (now asked) ≡ h .candidates) × (length (now wanted) ≡ h .candidates) × (length (now steps) ≡ h .candidates)
+        × (length (now fresh) ≡ 32) ⌝ }
+    ensures { λ _. ⌜ ChosenAll (roundOf (now (file .entry))) (now (asked .entry)) (now (wanted .entry)) (now (fresh .entry)) (h .institutes)
+        (now (steps .entry)) (now (steps .exit))
+        × (length (now (fresh .exit)) ≡ 32) ⌝ }
+{
+    for j in 0..h.institutes {
+        if fresh[j] != 0 {
+            fresh[j] = 0;
+            choose_anew(file, h, candidates, merits, j, asked, wanted, steps);
+        }
+    }
+}
