@@ -8,7 +8,8 @@ use Rattle.round.specs.Records.{startOf}
 use Rattle.round.specs.Questions.{questionsAt}
 use Rattle.round.specs.Refusal.{verdict, verdictFrom}
 use Rattle.round.specs.Reading.{stepIn, dereserved, stepsIn, entryIn, candidateIn, instituteFrom, roundOf}
-use Rattle.choice.specs.Use.{holds, oneLess, greatest, useOf}
+use Rattle.round.specs.Lists.{greatest}
+use Rattle.choice.specs.Use.{holds, oneLess, useOf}
 use Rattle.choice.specs.Step.{raises, takenBefore, takenForUse, remaining, takenByMerit, taken}
 use Rattle.choice.specs.Choice.{considers, positionsAt, takenAt, vacantAt, advance, advanceAll, nothingDone, choose}
 use Rattle.offers.specs.Rows.{rankIn}

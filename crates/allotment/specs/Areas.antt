@@ -4,9 +4,8 @@ use mathlib.Core.Bool.{Bool, cond, _&&_}
 use mathlib.Core.List.{List, [], _∷_, _++_}
 use lib.Dec.{eqb}
 use lib.ListN.{length, getD}
-use Rattle.round.specs.Lists.{tabulate}
+use Rattle.round.specs.Lists.{tabulate, greatest}
 use Rattle.round.specs.Round.{Round}
-use Rattle.choice.specs.Use.{greatest}
 use Rattle.round.specs.Places.{instituteAt}
 use Rattle.offers.specs.Offers.{candidateOn}
 use Rattle.offers.specs.Process.{Seat, noSeat, candidateCount, instituteCount, seats}

@@ -14,7 +14,6 @@ use Rattle.round.specs.Category.{codeOf, categoryOf}
 use Rattle.round.specs.Lists.{tabulate, tabulateFrom}
 use Rattle.round.specs.Rules.{numberIn, ruleIn, rulesIn, RuleTable}
 use Rattle.round.proofs.Words.{length-tabulate, tabulate-at}
-use Rattle.round.proofs.Rows.{row-start}
 use Rattle.choice.specs.Choice.{Progress, considers, positionsAt, takenAt, vacantAt, advance, advanceAll, nothingDone, choose}
 use Rattle.choice.specs.Offers.{offeredBy, considersBy}
 use Rattle.choice.specs.Fill.{stepGiven, stepVacant}
@@ -42,8 +41,8 @@ fewer-rules types n m table l t = record {
 }
 
 -- a row lies within the table
-pub row-within : (types k : ℕ) (table : List ℕ) → RuleTable types (suc k) table → (k * (3 + types) + (3 + types) ≤ length table) × (k * (3 + types) ≤ 132)
-row-within types k table t = (omega (arith, t .long, suc-mul k (3 + types)), omega (arith, row-start types k 12 (t .types-most) (omega (arith, t .steps-most))))
+row-within : (types k : ℕ) (table : List ℕ) → RuleTable types (suc k) table → k * (3 + types) + (3 + types) ≤ length table
+row-within types k table t = omega (arith, t .long, suc-mul k (3 + types))
 
 -- the part of a row that has the reserved positions
 reserved-part : (types k : ℕ) (table : List ℕ) → RuleTable types (suc k) table
@@ -59,7 +58,7 @@ reserved-part types k table t =
     ∙ sym (tabulate-at types (λ t. numberIn types table k (3 + t)) 0 i b))
   where
     sized : length (take types (drop (k * (3 + types) + 3) table)) ≡ types
-    sized = length-take-le types _ (simp length-drop (omega (arith, row-within types k table t .0)))
+    sized = length-take-le types _ (simp length-drop (omega (arith, row-within types k table t)))
 
 -- what was handed grows at the receiver alone
 handed-grows : (handed : List ℕ) (receiver vacant : ℕ) → receiver < length handed → (j : ℕ)
@@ -96,7 +95,7 @@ module _ (types k : ℕ) (rules handed : List ℕ) (t : RuleTable types (suc k) 
   handing-on vacant = set handed (getD rules (at + 1) 0) (getD handed (getD rules (at + 1) 0) 0 + vacant)
 
   -- no number wraps
-  pub still-low : (vacant : ℕ) → vacant ≤ positions → Handing (suc k) (handing-on vacant)
+  still-low : (vacant : ℕ) → vacant ≤ positions → Handing (suc k) (handing-on vacant)
   still-low vacant le = record {
     sized = simp length-set (h .sized);
     low = λ j.

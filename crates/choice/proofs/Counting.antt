@@ -8,8 +8,7 @@ use native.Mathlib.Omega.{arith}
 use lib.Dec.{eqb, ltb}
 use lib.ListN.{length, getD, set}
 use borrow.Author.Tests.{ltb-true, ltb-false, eqb-true, eqb-false, eq-eqb, ne-eqb}
-use Rattle.round.specs.Lists.{bit, count, sumOf, sum, all}
-use Rattle.choice.specs.Use.{greatest}
+use Rattle.round.specs.Lists.{bit, count, sumOf, sum, all, greatest}
 
 -- a test is passed or not
 pub test {ℓ} : {C : Type ℓ} (b : Bool) → (b ≡ true → C) → (b ≡ false → C) → C

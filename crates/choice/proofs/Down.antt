@@ -6,15 +6,17 @@ use mathlib.Core.Bool.{Bool, true, false}
 use mathlib.Core.List.{List}
 use native.Mathlib.Omega.{arith}
 use lib.Dec.{eqb, ltb}
-use lib.ListN.{length, getD, replicate, length-replicate, getD-replicate, List·getD-eq-default}
+use lib.ListN.{length, getD, set, replicate, length-set, length-replicate, getD-replicate, List·getD-eq-default}
+use lib.Seq.{getD-set-other}
 use borrow.Author.Tests.{eq-eqb, eqb-true, ne-eqb, lt-ltb, le-ltb, ltb-true}
 use Rattle.round.specs.Lists.{count}
 use Rattle.choice.specs.Use.{holds, Placing}
 use Rattle.choice.specs.Step.{raises, takenForUse}
 use Rattle.choice.specs.Search.{atType, Moved, Stuck, Searched}
-use Rattle.choice.specs.Taken.{Attempted, Took}
+use Rattle.choice.specs.Taken.{Without, Attempted, Took}
 use Rattle.choice.proofs.Counting.{lessOr, sameOr, bit-true, bit-false, count-le}
 use Rattle.choice.proofs.Counts.{count-more, count-within, count-rest}
+use Rattle.choice.proofs.Tabulate.{getD-zeros}
 use Rattle.choice.proofs.Use.{placed, PlacingTo, placed-raises}
 use Rattle.choice.proofs.Tight.{placed-blocked}
 use Rattle.choice.proofs.Taking.{takenForUse-considered, takenBefore-placed}
@@ -54,6 +56,17 @@ attempted-stuck reserved marks {v} {e} {v′} {e′} {b} {a} c s same copied r =
     never : false ≡ true → ⊥
     never f = let z : _≡_ {A = ℕ} 0 1 = cc in omega arith
 
+-- types are exhausted one after the other
+pub none-without : (reserved : List ℕ) → Without reserved (replicate 8 0)
+none-without reserved = record { types = refl; none = λ t v. absurd (omega (arith, getD-zeros 8 t)) }
+
+pub one-without : {reserved exhausted exhausted' : List ℕ} (t v : ℕ) → Without reserved exhausted → getD reserved t 0 ≡ 0 → exhausted' ≡ set exhausted t v
+    → Without reserved exhausted'
+one-without {reserved} {exhausted} {exhausted'} t v w z e = record {
+  types = ap length e ∙ length-set exhausted t v ∙ w .types;
+  none = λ u l. sameOr u t (λ same. rw same z) (λ other. w .none u (omega (arith, ap (λ (x : List ℕ). getD x u 0) e, getD-set-other exhausted t u v 0 other)));
+}
+
 pub no-type : (n : ℕ) (l : List ℕ) (q : ℕ) → l ≡ replicate n 0 → getD l q 0 ≡ 0
 no-type n l q e =
     rw e
@@ -68,7 +81,7 @@ module _ (reserved marks : List ℕ) (X : ℕ → Bool) where
   pub down-by : {l l₁ e e₁ : List ℕ} {n n₁ : ℕ} (p : ℕ) → l ≡ l₁ → e ≡ e₁ → n ≡ n₁ → Down reserved marks X l₁ e₁ n₁ p → Down reserved marks X l e n p
   down-by p el ee en d = rw (el, ee, en) d
 
-  pub top : (placed exhausted : List ℕ) → placed ≡ replicate (length marks) 0 → ((t : ℕ) → getD exhausted t 0 ≡ 0)
+  pub top : (placed exhausted : List ℕ) → placed ≡ replicate (length marks) 0 → Without reserved exhausted
       → Down reserved marks X placed exhausted 0 0
   top placed exhausted empty none = record {
     placing = record {
@@ -79,15 +92,12 @@ module _ (reserved marks : List ℕ) (X : ℕ → Bool) where
     each = λ q l. absurd (omega arith);
     rest = λ q l. no-type (length marks) placed q empty;
     number = refl;
-    full = λ t v. absurd (seen t v);
-    closed = λ q t u v. absurd (seen t v);
+    full = λ t v. omega (arith, none .none t v);
+    closed = λ q t u v e. absurd (clash q t e);
   }
     where
       clash : (q t : ℕ) → getD placed q 0 ≡ suc t → ⊥
       clash q t e = omega (arith, no-type (length marks) placed q empty)
-
-      seen : (t : ℕ) → 0 < getD exhausted t 0 → ⊥
-      seen t v = omega (arith, none t)
 
   -- the end of the list is reached
   pub bottom : (placed exhausted : List ℕ) (n p : ℕ) → p ≡ length marks → Down reserved marks X placed exhausted n p → Took reserved marks placed X n

@@ -19,11 +19,6 @@ use Rattle.choice.proofs.Sets.{same-by-count, count-split, count-join, 
 unfoldable pub filled : ℕ → ((ℕ → Bool) → ℕ → Bool) → ℕ → (ℕ → Bool) → ℕ → Bool
 filled n H q X p = H X p || (X p && not (H X p) && ltb (count n (H X) + count p (λ r. X r && not (H X r))) q)
 
--- a step's places are the filled ones of those taken for use
-pub taken-filled : (reserved marks : List ℕ) (considered : ℕ → Bool) (positions p : ℕ) → taken reserved marks considered positions p ≡ filled (length marks) (takenForUse reserved marks) positions considered p
-unfolding taken takenByMerit remaining filled
-taken-filled reserved marks considered positions p = refl
-
 -- the part of a set below n
 abbrev cut : ℕ → (ℕ → Bool) → ℕ → Bool
 cut n X p = ltb p n && X p

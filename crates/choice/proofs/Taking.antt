@@ -132,10 +132,6 @@ module _ (reserved marks : List ℕ) (X X′ : ℕ → Bool) where
   takenBefore-same zero h = refl
   takenBefore-same (suc p) h = rw (h p (omega arith), takenBefore-same p (λ q l. h q (omega arith)))
 
-  pub takenForUse-same : (p : ℕ) → ((q : ℕ) → q ≤ p → X q ≡ X′ q) → takenForUse reserved marks X p ≡ takenForUse reserved marks X′ p
-  unfolding takenForUse
-  takenForUse-same p h = rw (h p (omega arith), takenBefore-same p (λ q l. h q (omega arith)))
-
 module _ (reserved marks : List ℕ) (X X′ : ℕ → Bool) (more : (p : ℕ) → X p ≡ true → X′ p ≡ true) where
   covered : (p : ℕ) → Covered reserved (takenBefore reserved marks X p) (takenBefore reserved marks X′ p)
   covered zero = unfold takenBefore in covered-nil reserved

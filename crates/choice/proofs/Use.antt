@@ -10,9 +10,9 @@ use lib.Dec.{eqb, ltb}
 use lib.ListN.{length, getD, length-set}
 use lib.Seq.{getD-set-same, getD-set-other}
 use borrow.Author.Tests.{ltb-true, ltb-false, lt-ltb, le-ltb}
-use Rattle.round.specs.Lists.{bit, count, sum}
+use Rattle.round.specs.Lists.{bit, count, sum, greatest}
 use Rattle.round.proofs.Words.{and-fst, and-snd}
-use Rattle.choice.specs.Use.{holds, oneLess, greatest, useOf, Placing, placedIn}
+use Rattle.choice.specs.Use.{holds, oneLess, useOf, Placing, placedIn}
 use Rattle.choice.specs.Step.{raises}
 use Rattle.choice.proofs.Counting.{test, lessOr, sameOr, bit-true, bit-false, bit-same, bit-other, count-first}
 use Rattle.choice.proofs.Counting.{greatest-above, greatest-below, greatest-reached, sum-less}
@@ -290,17 +290,6 @@ raises-true reserved marks c e = omega (arith, ltb-true, useOf-step reserved mar
 pub raises-false : (reserved marks : List ℕ) (c : ℕ) → raises reserved marks c ≡ false → useOf reserved (c ∷ marks) ≡ useOf reserved marks
 unfolding raises
 raises-false reserved marks c e = omega (arith, ltb-false, useOf-grows reserved marks c)
-
-pub raises-from : (reserved marks : List ℕ) (c : ℕ) → useOf reserved (c ∷ marks) ≡ suc (useOf reserved marks) → raises reserved marks c ≡ true
-unfolding raises
-raises-from reserved marks c e = omega (arith, lt-ltb)
-
--- one who can be placed with all the others raises the use
-pub raises-placed : (reserved marks : List ℕ) (c : ℕ) (types : List ℕ) → Placing reserved (c ∷ marks) types → placedIn types ≡ suc (length marks)
-    → raises reserved marks c ≡ true
-unfolding raises
-raises-placed reserved marks c types p e =
-    omega (arith, lt-ltb, useOf-everyone reserved (c ∷ marks) types p e, useOf-length reserved marks)
 
 -- the f of the places below p to which g gives a type, the latest first
 abbrev pub placed : (ℕ → ℕ) → (ℕ → ℕ) → ℕ → List ℕ

@@ -1,11 +1,11 @@
 -- The use of a set of candidates (document 01, "One institute chooses": "The use of a set of candidates is ..").
-use Prim.Native.Nat.{ℕ, zero, suc, _+_, _-_, _/_, _%_, _^_, _≤_, _<_, max}
+use Prim.Native.Nat.{ℕ, suc, _-_, _/_, _%_, _^_, _≤_, _<_, max}
 use mathlib.Core.Path.{_≡_}
 use mathlib.Core.Bool.{Bool, true, cond, _&&_}
 use mathlib.Core.List.{List, [], _∷_}
 use lib.Dec.{eqb, ltb}
 use lib.ListN.{length, getD, set}
-use Rattle.round.specs.Lists.{bit, count}
+use Rattle.round.specs.Lists.{count, greatest}
 
 -- the marks have type t, from 0
 unfoldable pub holds : ℕ → ℕ → Bool
@@ -14,11 +14,6 @@ holds marks t = eqb ((marks / 2 ^ t) % 2) 1
 -- the positions with one of type t gone
 unfoldable pub oneLess : List ℕ → ℕ → List ℕ
 oneLess reserved t = set reserved t (getD reserved t 0 - 1)
-
--- the greatest of f 0, .., f (n - 1), and 0
-unfoldable pub greatest : ℕ → (ℕ → ℕ) → ℕ
-greatest zero f = 0
-greatest (suc n) f = max (f n) (greatest n f)
 
 -- document 01's use: the greatest number of these candidates, given by their marks, who can each be given a
 -- reserved position of a type they hold, one position each. The first is left out, or gets a position of some type

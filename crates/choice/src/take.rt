@@ -6,7 +6,7 @@ ghost use Prim.Native.Nat.{_≤_, _<_};
 ghost use lib.ListN.{length, replicate};
 ghost use Rattle.choice.specs.Offers.{considersBy};
 ghost use Rattle.choice.specs.Search.{Searching};
-ghost use Rattle.choice.specs.Taken.{Attempted, Took};
+ghost use Rattle.choice.specs.Taken.{Without, Attempted, Took};
 
 // Whether place p offers an entry of the code and has no step yet.
 pub fn considers(offers: &[u8], steps: &[u8], code: usize, p: usize) -> bool
@@ -24,6 +24,20 @@ fn copy(from: &[u8], to: &mut [u8])
     for i in 0..from.len() {
         to[i] = from[i];
     }
+}
+
+// The types that have no positions, which are exhausted from the start.
+fn without_positions(reserved: &[usize]) -> [u8; 8]
+    requires { ⌜ length (now reserved) ≤ 8 ⌝ }
+    ensures { λ r. ⌜ Without (now (reserved .entry)) r ⌝ }
+{
+    let mut exhausted = [0u8; 8];
+    for t in 0..reserved.len() {
+        if reserved[t] == 0 {
+            exhausted[t] = 1;
+        }
+    }
+    exhausted
 }
 
 // Places p with those taken before, if that can be; what a search in vain visited is exhausted.
@@ -59,7 +73,7 @@ pub fn take_for_use(
     requires { ⌜ (length (now reserved) ≤ 8) × (code < 5) × (length (now offers) ≡ length (now marks)) × (length (now steps) ≡ length (now marks)) × (now placed ≡ replicate (length (now marks)) 0) ⌝ }
     ensures { λ r. ⌜ Took (now (reserved .entry)) (now (marks .entry)) (now (placed .exit)) (considersBy (now (offers .entry)) (now (steps .entry)) code) r ⌝ }
 {
-    let mut exhausted = [0u8; 8];
+    let mut exhausted = without_positions(reserved);
     let mut n = 0;
     for p in 0..marks.len() {
         if considers(offers, steps, code, p) {

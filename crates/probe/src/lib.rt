@@ -66,7 +66,7 @@ fn fits(types: usize, body: usize, places: usize, offers: usize, steps: usize) -
     steps == places
 }
 
-// The step of each place by an institute's choice; where the lengths do not fit together, nothing happens.
+// The step of each place by an institute's choice, from the marks and the set of offers there; where the lengths do not fit together, nothing happens.
 #[no_mangle]
 pub extern "C" fn tazbilk_choose(
     body: &[u8],

@@ -70,8 +70,7 @@ module _ {file : List ℕ} {h : CodeHead} {merits holders steps : List ℕ} (kno
   -- both parts together
   parts : heldBytes holders steps ++ joined (tabulate (h .institutes) (closingBytes r (seatsHeld holders steps))) ≡ answerBytes r
   unfolding heldBytes answerBytes
-  parts =
-      rw (held-one (seats r) holders steps (known .list), many, institutes-many)
+  parts = rw (held-one (seats r) holders steps (known .list), many, institutes-many)
 
   pub answer-put : (area : List ℕ) {mid now : List ℕ} → answerSize r ≤ length area
       → mid ≡ sets area 0 (heldBytes holders steps)

@@ -8,7 +8,7 @@ use native.Mathlib.Numerals.{add-one}
 use lib.ListN.{length, getD}
 use mir.Syntax.{w64}
 use mir.Val.{Fits}
-use Rattle.choice.specs.Use.{greatest}
+use Rattle.round.specs.Lists.{greatest}
 use Rattle.round.specs.Records.{headOf}
 use Rattle.round.specs.Reading.{roundOf}
 use Rattle.round.specs.Round.{Institute, Round}
@@ -57,6 +57,9 @@ module _ {file merits holders steps : List ℕ} {j : ℕ} (known : ClosingKnown 
   listing : SoundInstitute (length (roundOf file .candidates)) (headOf file .types) own
   listing = sound file (known .accepted) .institute j (omega (arith, length-institutes file))
 
+  pub place-fits : {p : ℕ} → p < length (own .merit) → Fits w64 (p + 1)
+  place-fits inside = omega (arith, merit-short (roundOf file) j listing, sound file (known .accepted) .candidates-most)
+
   module _ {p number : ℕ} (inside : p < length (own .merit)) (read : number ≡ meritAt own p) where
     pub merit-least : 1 ≤ number
     merit-least = omega (arith, listing .merit-from p inside)
@@ -66,9 +69,6 @@ module _ {file merits holders steps : List ℕ} {j : ℕ} (known : ClosingKnown 
 
     pub step-there : number - 1 < length steps
     step-there = omega (arith, holder-there, known .holders-many, known .steps-many)
-
-    pub place-fits : Fits w64 (p + 1)
-    place-fits = omega (arith, merit-short (roundOf file) j listing, sound file (known .accepted) .candidates-most)
 
     module _ (k : ℕ) {b : Bool} (told : b ≡ seatIs (seatHeld holders steps (number - 1)) (j + 1) k) where
       seat-there : seatIs (getD (seatsHeld holders steps) (candidateOn (roundOf file) j p) noSeat) (suc j) k ≡ b

@@ -55,29 +55,52 @@ place-Inv-search reserved marks placed₀ visited₀ c placed visited = (placed 
 abbrev place-μ-search : place-lts.MeasureT-search
 place-μ-search reserved marks placed₀ visited₀ c placed visited = 0
 
+-- the places of the code: its entry, the head of the loop over types, a type that has no position left, and the end of the search
+abbrev AtEntry : ℕ → Type 0
+AtEntry t = place-lts.Start (told t) (place-at t) place.Post place-Inv-loop2 place-μ-loop2 place-Inv-loop place-μ-loop place-Inv-search place-μ-search
+
+abbrev AtTypes : ℕ → Type 0
+AtTypes t = place-lts.At-loop (told t) (place-at t) place.Post place-Inv-loop2 place-μ-loop2 place-Inv-loop place-μ-loop place-Inv-search place-μ-search
+
+abbrev AtFull : ℕ → Type 0
+AtFull t = place-lts.Else2 (told t) (place-at t) place.Post place-Inv-loop2 place-μ-loop2 place-Inv-loop place-μ-loop place-Inv-search place-μ-search
+
+abbrev AtEnd : ℕ → Type 0
+AtEnd t = place-lts.Left-loop (told t) (place-at t) place.Post place-Inv-loop2 place-μ-loop2 place-Inv-loop place-μ-loop place-Inv-search place-μ-search
+
+abbrev start : (t : ℕ) → AtTypes t → AtEntry t
+start t k = k .before .before .before .before .before .before
+
+abbrev types-of : (t : ℕ) → AtFull t → AtTypes t
+types-of t o = o .before .before .before .before .before .before .before .before .before
+
 -- the visited list keeps its length, and the places are as they were where the search began
-sized : (t : ℕ) (k : place-lts.At-loop (told t) (place-at t) place.Post place-Inv-loop2 place-μ-loop2 place-Inv-loop place-μ-loop place-Inv-search place-μ-search) → length (k .loop .visited) ≡ 8
-sized t k =
-    k .loop .inv .3 ∙ ap length (k .before .search .inv .1) ∙ k .before .before .before .before .before .before .pre .1 .types
+sized : (t : ℕ) (k : AtTypes t) → length (k .loop .visited) ≡ 8
+sized t k = k .loop .inv .3 ∙ ap length (k .before .search .inv .1) ∙ start t k .pre .1 .types
 
 -- the places at the head of the loop over types
-as-placed : (t : ℕ) (k : place-lts.At-loop (told t) (place-at t) place.Post place-Inv-loop2 place-μ-loop2 place-Inv-loop place-μ-loop place-Inv-search place-μ-search) → k .loop .placed ≡ k .before .before .before .before .before .before .args .placed .now
+as-placed : (t : ℕ) (k : AtTypes t) → k .loop .placed ≡ start t k .args .placed .now
 as-placed t k = k .loop .inv .2 ∙ k .before .search .inv .0
 
-placing : (t : ℕ) (k : place-lts.At-loop (told t) (place-at t) place.Post place-Inv-loop2 place-μ-loop2 place-Inv-loop place-μ-loop place-Inv-search place-μ-search) → Placing (k .before .before .before .before .before .before .args .reserved .now) (k .before .before .before .before .before .before .args .marks .now) (k .loop .placed)
-placing t k = subst (λ (l : List ℕ). Placing (k .before .before .before .before .before .before .args .reserved .now) (k .before .before .before .before .before .before .args .marks .now) l) (sym (as-placed t k)) (k .before .before .before .before .before .before .pre .1 .placing)
+placing : (t : ℕ) (k : AtTypes t) → Placing (start t k .args .reserved .now) (start t k .args .marks .now) (k .loop .placed)
+placing t k =
+    let a = start t k .args in
+    subst (λ (l : List ℕ). Placing (a .reserved .now) (a .marks .now) l) (sym (as-placed t k)) (start t k .pre .1 .placing)
 
 -- the type that is tried is held by c and not visited
-to-try : (t : ℕ) (o : place-lts.Else2 (told t) (place-at t) place.Post place-Inv-loop2 place-μ-loop2 place-Inv-loop place-μ-loop place-Inv-search place-μ-search) → (holds (getD (o .before .before .before .before .before .before .before .before .before .before .before .before .before .before .before .args .marks .now) (o .before .before .before .before .before .before .before .before .before .before .before .before .before .before .before .args .c) 0) (o .before .before .before .before .before .before .before .before .before .loop .t) ≡ true) × (getD (o .before .before .before .before .before .before .before .before .before .loop .visited) (o .before .before .before .before .before .before .before .before .before .loop .t) 0 ≡ 0)
-to-try t o = tried-test (getD (o .before .before .before .before .before .before .before .before .before .before .before .before .before .before .before .args .marks .now) (o .before .before .before .before .before .before .before .before .before .before .before .before .before .before .before .args .c) 0) (o .before .before .before .before .before .before .before .before .before .loop .t) (getD (o .before .before .before .before .before .before .before .before .before .loop .visited) (o .before .before .before .before .before .before .before .before .before .loop .t) 0) (o .before .before .before .before .before .to-try .ensures) (o .before .before .before .before .if1 .taken)
+to-try : (t : ℕ) (o : AtFull t) → let k = types-of t o in let a = start t k .args in
+    (holds (getD (a .marks .now) (a .c) 0) (k .loop .t) ≡ true) × (getD (k .loop .visited) (k .loop .t) 0 ≡ 0)
+to-try t o =
+    let test = o .before .before .before .before in
+    tried-test _ _ _ (test .before .to-try .ensures) (test .if1 .taken)
 
 -- how the search ends, at every way out of the loops, as a search that starts from the places and the visited types of the entry
-ended : (t : ℕ) (c : place-lts.Left-loop (told t) (place-at t) place.Post place-Inv-loop2 place-μ-loop2 place-Inv-loop place-μ-loop place-Inv-search place-μ-search)
-    → Ended (c .before .before .before .before .before .before .before .args .reserved .now) (c .before .before .before .before .before .before .before .args .marks .now) (c .before .before .before .before .before .before .before .args .visited .now) (c .loop-test .visited) (c .before .before .before .before .before .before .before .args .placed .now) (c .loop-test .placed) (c .before .before .before .before .before .before .before .args .c) (c .loop-test .found)
-    × (length (c .loop-test .placed) ≡ length (c .before .before .before .before .before .before .before .args .placed .now)) × (length (c .loop-test .visited) ≡ length (c .before .before .before .before .before .before .before .args .visited .now))
+ended : (t : ℕ) (c : AtEnd t) → let a = start t (c .before) .args in let out = c .loop-test in
+    Ended (a .reserved .now) (a .marks .now) (a .visited .now) (out .visited) (a .placed .now) (out .placed) (a .c) (out .found)
+    × (length (out .placed) ≡ length (a .placed .now)) × (length (out .visited) ≡ length (a .visited .now))
 ended t c =
     let k = c .before in
-    let start = k .before .before .before .before .before .before in
+    let start = start t k in
     let reserved = start .args .reserved .now in
     let marks = start .args .marks .now in
     let entry : start .args .visited .now ≡ k .before .search .visited = sym (k .before .search .inv .1) in
@@ -113,14 +136,21 @@ ended t c =
     (c .loop-test .came)
 
 -- .. with the type that was found, or nothing
-as-ended : (t : ℕ) (c : place-lts.Left-loop (told t) (place-at t) place.Post place-Inv-loop2 place-μ-loop2 place-Inv-loop place-μ-loop place-Inv-search place-μ-search) (f : Found) → c .loop-test .found ≡ f
-    → Ended (c .before .before .before .before .before .before .before .args .reserved .now) (c .before .before .before .before .before .before .before .args .marks .now) (c .before .before .before .before .before .before .before .args .visited .now) (c .loop-test .visited) (c .before .before .before .before .before .before .before .args .placed .now) (c .loop-test .placed) (c .before .before .before .before .before .before .before .args .c) f
+as-ended : (t : ℕ) (c : AtEnd t) (f : Found) → c .loop-test .found ≡ f → let a = start t (c .before) .args in
+    Ended (a .reserved .now) (a .marks .now) (a .visited .now) (c .loop-test .visited) (a .placed .now) (c .loop-test .placed) (a .c) f
 as-ended t c f e =
-    subst (Ended (c .before .before .before .before .before .before .before .args .reserved .now) (c .before .before .before .before .before .before .before .args .marks .now) (c .before .before .before .before .before .before .before .args .visited .now) (c .loop-test .visited) (c .before .before .before .before .before .before .before .args .placed .now) (c .loop-test .placed) (c .before .before .before .before .before .before .before .args .c)) e (ended t c .0)
+    let a = start t (c .before) .args in
+    subst (Ended (a .reserved .now) (a .marks .now) (a .visited .now) (c .loop-test .visited) (a .placed .now) (c .loop-test .placed) (a .c)) e (ended t c .0)
 
-cleared-at : (t : ℕ) (c : place-lts.After-known-told (told t) (place-at t) place.Post place-Inv-loop2 place-μ-loop2 place-Inv-loop place-μ-loop place-Inv-search place-μ-search)
-    → Cleared (c .before .before .before .before .before .before .before .before .before .before .args .reserved .now) (c .before .before .before .before .before .before .before .before .before .before .args .marks .now) (c .before .before .before .before .before .before .before .before .before .before .args .visited .now) (c .before .before .before .before .before .before .before .before .before .before .args .placed .now) (c .before .before .before .loop-test .placed) (c .before .before .before .before .before .before .before .before .before .before .args .c) (c .before .found .given .0 .0)
-cleared-at t c = as-ended t (c .before .before .before) (At (c .before .found .given .0 .0)) (c .before .found .given .1)
+abbrev AtKnown : ℕ → Type 0
+AtKnown t = place-lts.After-known-told (told t) (place-at t) place.Post place-Inv-loop2 place-μ-loop2 place-Inv-loop place-μ-loop place-Inv-search place-μ-search
+
+abbrev search-of : (t : ℕ) → AtKnown t → AtEnd t
+search-of t c = c .before .before .before
+
+cleared-at : (t : ℕ) (c : AtKnown t) → let s = search-of t c in let a = start t (s .before) .args in
+    Cleared (a .reserved .now) (a .marks .now) (a .visited .now) (a .placed .now) (s .loop-test .placed) (a .c) (c .before .found .given .0 .0)
+cleared-at t c = as-ended t (search-of t c) (At (c .before .found .given .0 .0)) (c .before .found .given .1)
 
 never : true ≡ false → ⊥
 never e = let z : _≡_ {A = ℕ} 0 1 = cc in omega arith
@@ -136,12 +166,16 @@ place-shared-slice-read-to-try t c = search needs
 
 place-to-try-requires : (t : ℕ) → place-lts.Need-to-try-requires (told t) (place-at t) place.Post place-Inv-loop2 place-μ-loop2 place-Inv-loop place-μ-loop place-Inv-search place-μ-search
 place-to-try-requires t c κs =
-    let k = c .before .before .before in
-    let below : k .loop .t < 8 = omega (arith, c .before .before .loop-test .taken, k .before .before .before .before .before .before .pre .1 .few) in
+    let turn = c .before .before in
+    let k = turn .before in
+    let below : k .loop .t < 8 = omega (arith, turn .loop-test .taken, start t k .pre .1 .few) in
     (below, omega (arith, sized t k))
 
 place-slice-write-visited : (t : ℕ) → place-lts.Need-slice-write-visited (told t) (place-at t) place.Post place-Inv-loop2 place-μ-loop2 place-Inv-loop place-μ-loop place-Inv-search place-μ-search
-place-slice-write-visited t c = omega (arith, sized t (c .before .before .before .before .before), c .before .before .before .before .loop-test .taken, c .before .before .before .before .before .before .before .before .before .before .before .pre .1 .few)
+place-slice-write-visited t c =
+    let turn = c .before .before .before .before in
+    let k = turn .before in
+    omega (arith, sized t k, turn .loop-test .taken, start t k .pre .1 .few)
 
 place-placed-at-requires : (t : ℕ) → place-lts.Need-placed-at-requires (told t) (place-at t) place.Post place-Inv-loop2 place-μ-loop2 place-Inv-loop place-μ-loop place-Inv-search place-μ-search
 place-placed-at-requires t c κs = search needs
@@ -154,8 +188,8 @@ place-shared-slice-read-if2 t c = search needs
 
 place-loop2-holds : (t : ℕ) → place-lts.Need-loop2-holds (told t) (place-at t) place.Post place-Inv-loop2 place-μ-loop2 place-Inv-loop place-μ-loop place-Inv-search place-μ-search
 place-loop2-holds t c =
-    let k = c .before .before .before .before .before .before .before .before .before in
-    let start = k .before .before .before .before .before .before in
+    let k = types-of t c in
+    let start = start t k in
     (omega arith, refl, refl, refl, refl, ask (start .args .reserved .now) (start .args .marks .now) (k .loop .placed) (set (k .loop .visited) (k .loop .t) 1) (k .loop .t))
 
 place-slice-read-wide : (t : ℕ) → place-lts.Need-slice-read-wide (told t) (place-at t) place.Post place-Inv-loop2 place-μ-loop2 place-Inv-loop place-μ-loop place-Inv-search place-μ-search
@@ -169,11 +203,13 @@ place-add-if3 t c = search needs
 
 place-place-requires : (t : ℕ) → place-lts.Need-place-requires (told t) (place-at t) place.Post place-Inv-loop2 place-μ-loop2 place-Inv-loop place-μ-loop place-Inv-search place-μ-search
 place-place-requires t c κs =
-    let i = c .before .before .before .before .before .before in
+    let holder = c .before .before .before .before .before in
+    let i = holder .before in
     let o = i .before in
-    let k = o .before .before .before .before .before .before .before .before .before in
-    let start = k .before .before .before .before .before .before in
-    let below : k .loop .t < length (start .args .reserved .now) = o .before .before .before .before .before .before .before .before .loop-test .taken in
+    let turn = o .before .before .before .before .before .before .before .before in
+    let k = turn .before in
+    let start = start t k in
+    let below : k .loop .t < length (start .args .reserved .now) = turn .loop-test .taken in
     let len : length (i .loop2 .visited) ≡ length (k .loop .visited) = i .loop2 .inv .4 ∙ length-set (k .loop .visited) (k .loop .t) 1 in
     let less : unvisited (i .loop2 .visited) < unvisited (k .before .search .visited) =
     fewer (start .args .reserved .now) (start .args .marks .now) (k .loop .placed) (k .before .search .visited) (k .loop .visited) (start .args .c) (k .loop .t) (k .loop .inv .4)
@@ -182,26 +218,30 @@ place-place-requires t c κs =
       record {
         few = start .pre .1 .few;
         types = len ∙ sized t k;
-        within = omega (arith, c .before .before .before .before .before .loop2-test .taken, placing t k .each);
+        within = omega (arith, holder .loop2-test .taken, placing t k .each);
         placing = subst (λ (l : List ℕ). Placing (start .args .reserved .now) (start .args .marks .now) l) (sym (i .loop2 .inv .3)) (placing t k);
       },
     )
 
 place-add-h : (t : ℕ) → place-lts.Need-add-h (told t) (place-at t) place.Post place-Inv-loop2 place-μ-loop2 place-Inv-loop place-μ-loop place-Inv-search place-μ-search
-place-add-h t c = omega (arith, c .before .before .before .loop2-test .taken, ap length (as-placed t (c .before .before .before .before .before .before .before .before .before .before .before .before .before .before)), c .before .before .before .before .before .before .before .before .before .before .before .before .before .before .before .before .before .before .before .before .good)
+place-add-h t c =
+    let holder = c .before .before .before in
+    let k = types-of t (holder .before .before) in
+    omega (arith, holder .loop2-test .taken, ap length (as-placed t k), start t k .good)
 
 place-loop2-less : (t : ℕ) → place-lts.Need-loop2-less (told t) (place-at t) place.Post place-Inv-loop2 place-μ-loop2 place-Inv-loop place-μ-loop place-Inv-search place-μ-search
 place-loop2-less t c = search needs
 
 place-loop2-again : (t : ℕ) → place-lts.Need-loop2-again (told t) (place-at t) place.Post place-Inv-loop2 place-μ-loop2 place-Inv-loop place-μ-loop place-Inv-search place-μ-search
 place-loop2-again t c =
-    let i = c .before .before .before .before in
-    let k = c .before .before .before .before .before .before .before .before .before .before .before .before .before .before in
-    let reserved = k .before .before .before .before .before .before .args .reserved .now in
-    let marks = k .before .before .before .before .before .before .args .marks .now in
+    let holder = c .before .before .before in
+    let i = holder .before in
+    let k = types-of t (i .before) in
+    let reserved = start t k .args .reserved .now in
+    let marks = start t k .args .marks .now in
     let visited₁ = set (k .loop .visited) (k .loop .t) 1 in
     let Next : List ℕ → Type 0 = λ v. Asked reserved marks (k .loop .placed) visited₁ v (k .loop .t) (i .loop2 .h + 1) in
-    let more : i .loop2 .h + 1 ≤ length (k .loop .placed) = omega (arith, c .before .before .before .loop2-test .taken) in
+    let more : i .loop2 .h + 1 ≤ length (k .loop .placed) = omega (arith, holder .loop2-test .taken) in
     ⊎-elim
     (λ w.
     let s = w .3 .ensures .stuck (w .8 .left) in (
@@ -233,13 +273,14 @@ place-loop-less t c = search needs
 
 place-loop-again : (t : ℕ) → place-lts.Need-loop-again (told t) (place-at t) place.Post place-Inv-loop2 place-μ-loop2 place-Inv-loop place-μ-loop place-Inv-search place-μ-search
 place-loop-again t c =
-    let k = c .before .before .before .before .before in
-    let start = k .before .before .before .before .before .before in
+    let turn = c .before .before .before .before in
+    let k = turn .before in
+    let start = start t k in
     let reserved = start .args .reserved .now in
     let marks = start .args .marks .now in
     let visited₀ = k .before .search .visited in
     let Next : List ℕ → List ℕ → Type 0 = λ p v. Tried reserved marks p visited₀ v (start .args .c) (k .loop .t + 1) in
-    let next : k .loop .t < length reserved = c .before .before .before .before .loop-test .taken in
+    let next : k .loop .t < length reserved = turn .loop-test .taken in
     ⊎-elim
     (λ w.
     let test = tried-test (getD marks (start .args .c) 0) (k .loop .t) (getD (k .loop .visited) (k .loop .t) 0) (c .before .to-try .ensures) (w .0 .taken) in
@@ -281,25 +322,36 @@ place-returns : (t : ℕ) → place-lts.Need-returns (told t) (place-at t) place
 place-returns t c = record { found = λ e. absurd (never (sym e)); stuck = λ e. as-ended t (c .before .before) Nothing (c .enum-told .given .1) }
 
 place-add-placed : (t : ℕ) → place-lts.Need-add-placed (told t) (place-at t) place.Post place-Inv-loop2 place-μ-loop2 place-Inv-loop place-μ-loop place-Inv-search place-μ-search
-place-add-placed t c = omega (arith, cleared-at t c .below, c .before .before .before .before .before .before .before .before .before .before .pre .1 .few)
+place-add-placed t c = let k = search-of t c .before in omega (arith, cleared-at t c .below, start t k .pre .1 .few)
 
 place-cast-placed : (t : ℕ) → place-lts.Need-cast-placed (told t) (place-at t) place.Post place-Inv-loop2 place-μ-loop2 place-Inv-loop place-μ-loop place-Inv-search place-μ-search
-place-cast-placed t c = omega (arith, cleared-at t c .below, c .before .before .before .before .before .before .before .before .before .before .pre .1 .few)
+place-cast-placed t c = let k = search-of t c .before in omega (arith, cleared-at t c .below, start t k .pre .1 .few)
 
 place-slice-write-placed : (t : ℕ) → place-lts.Need-slice-write-placed (told t) (place-at t) place.Post place-Inv-loop2 place-μ-loop2 place-Inv-loop place-μ-loop place-Inv-search place-μ-search
-place-slice-write-placed t c = omega (arith, ended t (c .before .before .before) .1, c .before .before .before .before .before .before .before .before .before .before .pre .1 .within, c .before .before .before .before .before .before .before .before .before .before .pre .1 .placing .each)
+place-slice-write-placed t c =
+    let s = search-of t c in
+    let p = start t (s .before) .pre .1 in
+    omega (arith, ended t s .1, p .within, p .placing .each)
 
 place-same-length-3 : (t : ℕ) → place-lts.Need-same-length-3 (told t) (place-at t) place.Post place-Inv-loop2 place-μ-loop2 place-Inv-loop place-μ-loop place-Inv-search place-μ-search
-place-same-length-3 t c = length-set (c .before .before .before .loop-test .placed) (c .before .before .before .before .before .before .before .before .before .before .args .c) _ ∙ ended t (c .before .before .before) .1
+place-same-length-3 t c =
+    let s = search-of t c in
+    length-set (s .loop-test .placed) (start t (s .before) .args .c) _ ∙ ended t s .1
 
 place-same-length-4 : (t : ℕ) → place-lts.Need-same-length-4 (told t) (place-at t) place.Post place-Inv-loop2 place-μ-loop2 place-Inv-loop place-μ-loop place-Inv-search place-μ-search
-place-same-length-4 t c = ended t (c .before .before .before) .2
+place-same-length-4 t c = ended t (search-of t c) .2
 
 place-returns-2 : (t : ℕ) → place-lts.Need-returns-2 (told t) (place-at t) place.Post place-Inv-loop2 place-μ-loop2 place-Inv-loop place-μ-loop place-Inv-search place-μ-search
-place-returns-2 t c = record {
-  found = λ e. rw add-one (settle (c .before .before .before .before .before .before .before .before .before .before .args .reserved .now) (c .before .before .before .before .before .before .before .before .before .before .args .marks .now) (c .before .before .before .before .before .before .before .before .before .before .args .visited .now) (c .before .before .before .before .before .before .before .before .before .before .args .placed .now) (c .before .before .before .loop-test .placed) (c .before .before .before .before .before .before .before .before .before .before .args .c) (c .before .found .given .0 .0) (c .before .before .before .before .before .before .before .before .before .before .pre .1 .within) (cleared-at t c));
-  stuck = λ e. absurd (never e);
-}
+place-returns-2 t c =
+    let s = search-of t c in
+    let a = start t (s .before) .args in
+    record {
+      found = λ e.
+          rw add-one
+          (settle (a .reserved .now) (a .marks .now) (a .visited .now) (a .placed .now) (s .loop-test .placed) (a .c) (c .before .found .given .0 .0)
+          (start t (s .before) .pre .1 .within) (cleared-at t c));
+      stuck = λ e. absurd (never e);
+    }
 
 pub +place-spec : {M : Type 1} → statement M
 +place-spec = close μ-place λ t. place-lts.spec (told t)

@@ -1,6 +1,6 @@
 -- `choice::placing::placed_at` meets its contract: the loop keeps the count of the places passed. Assumes nothing.
 use Prim.Native.Nat.{ℕ, suc, _+_, _≤_, _-_}
-use mathlib.Core.Path.{_≡_, refl, subst}
+use mathlib.Core.Path.{_≡_, refl, sym}
 use mathlib.Core.Bool.{Bool}
 use Rattle.choice.proofs.Counting.{bit-true, bit-false}
 use Rattle.choice.proofs.Counts.{count-more}
@@ -9,6 +9,7 @@ use lib.Dec.{eqb}
 use lib.ListN.{length, getD}
 use native.Mathlib.Omega.{arith}
 use Rattle.round.specs.Lists.{count}
+use Rattle.round.proofs.Words.{reached}
 use borrow.Author.Tests.{eq-eqb, ne-eqb}
 use borrow.Author.Needs.{needs}
 use Rattle.choice.proofs.placing.placed_at.Statement.{statement}
@@ -43,11 +44,12 @@ loop-less c = search needs
 
 loop-again : tie.Need-loop-again Inv-loop μ-loop
 loop-again c =
-    let q = c .before .before .before .before .loop .p in
-    let here = c .before .before .before .before .before .before .args in
+    let l = c .before .before .before .before in
+    let q = l .loop .p in
+    let here = l .before .before .args in
     let X : ℕ → Bool = λ i. eqb (getD (here .placed .now) i 0) (suc (here .t)) in
-    let n = c .before .before .before .before .loop .n in
-    let so-far : n ≡ count q X = c .before .before .before .before .loop .inv .3 in
+    let n = l .loop .n in
+    let so-far : n ≡ count q X = l .loop .inv .3 in
     let byte : c .before .wide .result ≡ getD (here .placed .now) q 0 = c .before .wide .ensures .0 in
     ⊎-elim
     (λ w.
@@ -60,8 +62,9 @@ loop-again c =
 
 returns : tie.Need-returns Inv-loop μ-loop
 returns c =
-    let at : c .before .loop .p ≡ length (c .before .before .before .args .placed .now) = omega arith in
-    subst (λ (k : ℕ). c .before .loop .n ≡ count k (λ q. eqb (getD (c .before .before .before .args .placed .now) q 0) (suc (c .before .before .before .args .t)))) at (c .before .loop .inv .3)
+    let l = c .before in
+    let a = l .before .before .args in
+    reached (λ k. count k (λ q. eqb (getD (a .placed .now) q 0) (suc (a .t)))) (l .loop .inv .0) (omega arith) (sym (l .loop .inv .3))
 
 pub placed-at-spec : {M : Type 1} → statement M
 placed-at-spec =

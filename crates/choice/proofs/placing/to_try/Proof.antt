@@ -1,7 +1,5 @@
 -- `choice::placing::to_try` meets its contract, by what `has_type` ensures. Assumes nothing.
-use mathlib.Core.Path.{_≡_, sym, _∙_}
-use mathlib.Core.Bool.{true, false}
-use Rattle.choice.specs.Use.{holds}
+use mathlib.Core.Path.{sym, _∙_}
 use borrow.Author.Needs.{needs}
 use Rattle.choice.proofs.placing.to_try.Statement.{statement}
 use Rattle.choice.proofs.placing.to_try.Tie as tie
@@ -13,16 +11,10 @@ shared-slice-read-result : tie.Need-shared-slice-read-result
 shared-slice-read-result c = search needs
 
 returns : tie.Need-returns
-returns c =
-    let held : holds (c .before .before .before .before .args .marks) (c .before .before .before .before .args .t) ≡ true =
-    sym (c .before .before .has-type .ensures) ∙ c .before .if1 .taken in
-    simp held
+returns c = let asked = c .before .before in rw (sym (asked .has-type .ensures) ∙ c .before .if1 .taken)
 
 returns-2 : tie.Need-returns-2
-returns-2 c =
-    let held : holds (c .before .before .before .args .marks) (c .before .before .before .args .t) ≡ false =
-    sym (c .before .has-type .ensures) ∙ c .if1 .left in
-    rw (c .before .has-type .ensures, held)
+returns-2 c = let asked = c .before in rw (c .if1 .left, sym (asked .has-type .ensures) ∙ c .if1 .left)
 
 pub to-try-spec : {M : Type 1} → statement M
 to-try-spec = tie.close (tie.spec has-type-requires shared-slice-read-result returns returns-2)

@@ -5,7 +5,7 @@ use mathlib.Core.Logic.{⊎-elim}
 use lib.ListN.{length}
 use native.Mathlib.Omega.{arith}
 use Rattle.choice.specs.Offers.{considersBy}
-use Rattle.choice.proofs.Down.{Down, no-type, down-by, top, bottom, passed, placed-one, passed-by}
+use Rattle.choice.proofs.Down.{Down, down-by, top, bottom, passed, placed-one, passed-by}
 use borrow.Author.Needs.{needs}
 use Rattle.choice.proofs.take.take_for_use.Statement.{statement}
 use Rattle.choice.proofs.take.take_for_use.Tie as tie
@@ -17,12 +17,15 @@ abbrev μ-loop : tie.MeasureT-loop
 μ-loop reserved marks offers steps code placed₀ exhausted₀ n₀ p₀ p-end placed exhausted n p = length marks - p
 
 abbrev start : tie.At-loop Inv-loop μ-loop → tie.Start Inv-loop μ-loop
-start l = l .before .before .before .before .before .before
+start l = l .before .before .before .before .before .before .before
+
+without-positions-requires : tie.Need-without-positions-requires Inv-loop μ-loop
+without-positions-requires c κs = search needs
 
 loop-holds : tie.Need-loop-holds Inv-loop μ-loop
 loop-holds c =
-    let start = c .before .before .before .before .before in
-    (omega arith, refl, omega arith, refl, refl, top _ _ _ _ _ (start .pre .4) (λ t. no-type 8 _ t refl))
+    let start = c .before .before .before .before .before .before in
+    (omega arith, refl, omega arith, refl, c .without-positions .ensures .types, top _ _ _ _ _ (start .pre .4) (c .without-positions .ensures))
 
 considers-requires : tie.Need-considers-requires Inv-loop μ-loop
 considers-requires c κs = search needs
@@ -101,6 +104,7 @@ take-for-use-spec =
     (tie.spec
     Inv-loop
     μ-loop
+    without-positions-requires
     loop-holds
     considers-requires
     slice-aggregate-take-one
