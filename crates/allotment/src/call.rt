@@ -1,11 +1,13 @@
 // The public call: a round file in, the answer out, both lent areas written.
 use crate::Answer;
 use crate::areas::write_answer;
-use offers::clearing::clear;
 use offers::process::run_offers;
 use offers::table::zeros;
+use round::clearing::clear;
 use round::head::Head;
 use round::reader::Reading;
+use round::reader::candidate_table;
+use round::reader::institute_table;
 use round::reader::read_round;
 ghost use mathlib.Core.Path.{_≡_};
 ghost use mathlib.Core.List.{_++_};
@@ -17,20 +19,6 @@ ghost use Rattle.allotment.specs.Areas.{answerBytes, answerSize};
 ghost use Rattle.allotment.specs.Promise.{Promise};
 ghost use Rattle.offers.specs.Held.{AtHand};
 ghost use Rattle.allotment.specs.Handing.{refusedBy};
-
-// A table for where the candidates' records start.
-fn no_rows() -> [usize; 512]
-    ensures { λ r. ⌜ length r ≡ 512 ⌝ }
-{
-    [0; 512]
-}
-
-// A table for where the merit lists start.
-fn no_lists() -> [usize; 32]
-    ensures { λ r. ⌜ length r ≡ 32 ⌝ }
-{
-    [0; 32]
-}
 
 // The answer to a file that the reader refused; one that was read is never handed up, and what is given for it is of no matter.
 fn handed(got: Reading) -> Answer
@@ -112,8 +100,8 @@ fn allot_round(
 pub fn allot(file: &[u8], answer: &mut [u8], work: &mut [u8]) -> Answer
     ensures { λ r. ⌜ Promise (now (file .entry)) (now (answer .entry)) (now (work .entry)) r (now (answer .exit)) (now (work .exit)) ⌝ }
 {
-    let mut candidates = no_rows();
-    let mut merits = no_lists();
+    let mut candidates = candidate_table();
+    let mut merits = institute_table();
     let got = read_round(file, &mut candidates, &mut merits);
     let Reading::Read(h) = got else {
         return handed(got);

@@ -17,10 +17,9 @@ use Rattle.choice.specs.Choice.{Progress, considers, positionsAt, takenA
 use Rattle.choice.proofs.Counting.{clash, false-unless}
 use Rattle.choice.proofs.Sets.{left-if-out}
 use Rattle.choice.proofs.Filling.{TakesForUse, taken-within, taken-irrelevant}
-use Rattle.choice.proofs.Completion.{Lawful, Completing, positionsIn, takenIn, complete, completeAll, allLeft, completion, left-before, completion-within}
+use Rattle.choice.proofs.Completion.{Lawful, progress-below, Completing, positionsIn, takenIn, complete, completeAll, allLeft, completion, left-before, completion-within}
 use Rattle.choice.proofs.Offers.{Offers, WithinBelow, Alone, same, same-self, same-category}
-use Rattle.choice.proofs.Chosen.{takenUnder, under-none, under-some, choose-number}
-use Rattle.choice.proofs.Below.{progress-below}
+use Rattle.choice.proofs.Chosen.{takenUnder, under-none}
 
 -- the steps noted are those under which the offers of Y that are gone were taken
 record Agrees (n : ℕ) (under : ℕ → Category → Bool) (Y : Offers) (now : Completing) : Type 0 where
@@ -146,16 +145,6 @@ module _ (marks : List ℕ) (taking : TakesForUse marks) (rules : List StepRule)
   agreement Y alone p l c =
       let both = between Y Y (λ r m d y. y) (λ r m d. completion-within marks rules Y r d) alone in
       ap (λ (done : Progress). takenUnder rules (getD (done .given) p 0) c) (both .0) ∙ both .1 .noted p l c
-
-  -- a place of which the completion takes no offer has no step
-  pub agreement-none : (Y : Offers) → Alone (length marks) (completion marks rules Y) → (p : ℕ) → p < length marks → ((c : Category) → completion marks rules Y p c ≡ false) → getD (choose marks Y rules) p 0 ≡ 0
-  agreement-none Y alone p l out = go (eqb (getD (choose marks Y rules) p 0) 0) refl
-    where
-      go : (b : Bool) → eqb (getD (choose marks Y rules) p 0) 0 ≡ b → getD (choose marks Y rules) p 0 ≡ 0
-      go true e = eqb-true _ _ e
-      go false e =
-          let one = under-some rules (getD (choose marks Y rules) p 0) (omega (arith, eqb-false (getD (choose marks Y rules) p 0) 0 e)) (choose-number marks Y rules p) in
-          clash (one .1) (agreement Y alone p l (one .0) ∙ out (one .0))
 
   -- offers between those taken and those offered get the same steps
   pub same-steps : (Y Y' : Offers) → WithinBelow (length marks) Y Y' → WithinBelow (length marks) (completion marks rules Y') Y → Alone (length marks) (completion marks rules Y') → choose marks Y rules ≡ choose marks Y' rules

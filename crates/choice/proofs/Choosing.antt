@@ -127,14 +127,14 @@ module _ (types k : ℕ) (rules handed : List ℕ) (t : RuleTable types (suc k) 
       reserved = let n : at + 3 + types - (at + 3) ≡ types = omega arith in rw n (reserved-part types k rules t)
 
 -- after k steps the rest of the rules leads to what all of them lead to from nothing done
-pub record Going (marks offers rules : List ℕ) (types count k : ℕ) (steps handed : List ℕ) : Type 0 where
+pub record Stepping (marks offers rules : List ℕ) (types count k : ℕ) (steps handed : List ℕ) : Type 0 where
   pub sized : length steps ≡ length marks
   pub handing : Handing k handed
   pub rest : advanceAll marks (offeredBy offers) (suc k) (tabulateFrom k (count - k) (ruleIn types rules)) (doneBy steps handed)
       ≡ advanceAll marks (offeredBy offers) 1 (rulesIn types count rules) (nothingDone marks (offeredBy offers))
 
 module _ (marks offers rules : List ℕ) (types count : ℕ) where
-  pub set-out : (steps handed : List ℕ) → steps ≡ replicate (length marks) 0 → handed ≡ replicate 13 0 → Going marks offers rules types count 0 steps handed
+  pub set-out : (steps handed : List ℕ) → steps ≡ replicate (length marks) 0 → handed ≡ replicate 13 0 → Stepping marks offers rules types count 0 steps handed
   set-out steps handed es eh = record {
     sized = ap length es ∙ length-replicate (length marks) 0;
     handing = record { sized = ap length eh; low = λ j. rw (eh, getD-zeros 13 j) (omega arith) };
@@ -145,9 +145,9 @@ module _ (marks offers rules : List ℕ) (types count : ℕ) where
         (unfold nothingDone in done-same (nothingDone marks (offeredBy offers)) steps handed es (λ j. rw eh (getD-zeros 13 j))));
   }
 
-  pub go-on : (k : ℕ) (steps handed steps' handed' : List ℕ) → k < count → Going marks offers rules types count k steps handed → length steps' ≡ length steps
+  pub go-on : (k : ℕ) (steps handed steps' handed' : List ℕ) → k < count → Stepping marks offers rules types count k steps handed → length steps' ≡ length steps
       → (doneBy steps' handed' ≡ advance marks (offeredBy offers) (suc k) (ruleIn types rules k) (doneBy steps handed)) × Handing (suc k) handed'
-      → Going marks offers rules types count (k + 1) steps' handed'
+      → Stepping marks offers rules types count (k + 1) steps' handed'
   unfolding advanceAll
   go-on k steps handed steps' handed' l g len s = rw add-one record {
     sized = len ∙ g .sized;
@@ -155,7 +155,7 @@ module _ (marks offers rules : List ℕ) (types count : ℕ) where
     rest = rw (s .0) (let more : count - k ≡ suc (count - suc k) = omega arith in rw more at (g .rest));
   }
 
-  pub arrive : (k : ℕ) (steps handed : List ℕ) → count ≤ k → Going marks offers rules types count k steps handed
+  pub arrive : (k : ℕ) (steps handed : List ℕ) → count ≤ k → Stepping marks offers rules types count k steps handed
       → steps ≡ choose marks (offeredBy offers) (rulesIn types count rules)
   unfolding choose advanceAll
   arrive k steps handed l g = let none : count - k ≡ 0 = omega arith in ap (λ (done : Progress). done .given) (rw none at (g .rest))

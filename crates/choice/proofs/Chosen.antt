@@ -12,7 +12,7 @@ use Rattle.round.proofs.Words.{and-fst, length-tabulate, tabulate-at}
 use Rattle.choice.specs.Step.{raises, takenBefore, takenForUse, remaining, takenByMerit, taken}
 use Rattle.choice.specs.Choice.{Progress, considers, takenAt, advance, advanceAll, nothingDone, choose}
 use Rattle.choice.proofs.Counting.{clash}
-use Rattle.choice.proofs.Offers.{Offers, same, same-self, same-category}
+use Rattle.choice.proofs.Offers.{Offers, same, same-category}
 use Rattle.choice.proofs.Tabulate.{tabulate-bound, getD-zeros}
 
 -- k is the number, from 1, of a rule of this category
@@ -25,12 +25,6 @@ takenUnder (rule ∷ rules) (suc (suc k)) c = takenUnder rules (suc k) c
 pub under-none : (rules : List StepRule) (c : Category) → takenUnder rules 0 c ≡ false
 under-none [] c = refl
 under-none (rule ∷ rules) c = refl
-
-pub under-some : (rules : List StepRule) (k : ℕ) → 0 < k → k ≤ length rules → (c : Category) × (takenUnder rules k c ≡ true)
-under-some [] k l m = absurd (omega arith)
-under-some (rule ∷ rules) zero l m = absurd (omega arith)
-under-some (rule ∷ rules) (suc zero) l m = (rule .category, same-self (rule .category))
-under-some (rule ∷ rules) (suc (suc k)) l m = under-some rules (suc k) (omega arith) (omega arith)
 
 is-considered : (x r t : Bool) → ((x && r) || (x && not (x && r) && t)) ≡ true → x ≡ true
 is-considered true r t e = refl

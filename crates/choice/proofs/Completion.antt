@@ -1,7 +1,7 @@
 -- The completion of an institute's choice: a place taken under one entry keeps its other entry in play. It has the laws
 -- that the choice itself lacks: more offers keep out what was kept out, and take no fewer.
 use Prim.Native.Nat.{ℕ, zero, suc, _+_, _-_, _≤_, _<_, min}
-use mathlib.Core.Path.{_≡_, refl, sym, _∙_}
+use mathlib.Core.Path.{_≡_, refl, sym, _∙_, ap}
 use mathlib.Core.Bool.{Bool, true, false, cond, not, _&&_, _||_, and-true}
 use mathlib.Core.List.{List, [], _∷_}
 use native.Mathlib.Omega.{arith}
@@ -16,6 +16,7 @@ use Rattle.round.proofs.Words.{and-fst, and-snd}
 use Rattle.choice.specs.Step.{taken}
 use Rattle.choice.specs.Choice.{Progress, nothingDone}
 use Rattle.choice.proofs.Counting.{clash, true-unless, count-ext, count-le}
+use Rattle.choice.proofs.Tabulate.{tabulate-cong}
 use Rattle.choice.proofs.Sets.{left-if-out, out-if-left, count-split}
 use Rattle.choice.proofs.Offers.{Offers, Within, WithinBelow, same, same-category, offersIn, offers-split, same-by-offers, cutOffers, cut-in}
 use Rattle.choice.proofs.Filling.{TakesForUse, taken-within, taken-stays, taken-count}
@@ -31,6 +32,13 @@ progress n k positions receiver T done = record {
   given = tabulate n (λ p. cond (T p) k (getD (done .given) p 0));
   handed = λ j. done .handed j + cond (eqb j receiver) (positions - count n T) 0;
 }
+
+-- what a step leaves depends on whom it takes of the places
+pub progress-below : (n k positions receiver : ℕ) (done : Progress) (T T' : ℕ → Bool) → ((p : ℕ) → p < n → T p ≡ T' p) → progress n k positions receiver T done ≡ progress n k positions receiver T' done
+progress-below n k positions receiver done T T' alike =
+    let given = tabulate-cong n (λ p. cond (T p) k (getD (done .given) p 0)) (λ p. cond (T' p) k (getD (done .given) p 0)) (λ p l. ap (λ (b : Bool). cond b k (getD (done .given) p 0)) (alike p l)) in
+    let number = count-ext n T T' alike in
+    λ i. record { given = given i; handed = λ j. done .handed j + cond (eqb j receiver) (positions - number i) 0 }
 
 -- what the steps done so far leave: the offers not taken, and the steps and vacancies as the choice keeps them
 pub record Completing : Type 0 where
@@ -267,7 +275,3 @@ module _ (marks : List ℕ) (taking : TakesForUse marks) where
         (λ r m d t. cut-in (length marks) Y r m d (held r m d (sym (cut-same Y' r m d) ∙ t)))
         p l c
         ∙ cut-same Y' p l c
-
-    -- the offers of places that are none do not matter
-    pub completion-below : (Y Y' : Offers) → ((p : ℕ) → p < length marks → (c : Category) → Y p c ≡ Y' p c) → (p : ℕ) → p < length marks → (c : Category) → completion marks rules Y p c ≡ completion marks rules Y' p c
-    completion-below Y Y' alike = completion-irrelevant Y Y' (λ p l c y. sym (alike p l c) ∙ y) (λ p l c t. alike p l c ∙ completion-within marks rules Y' p c t)

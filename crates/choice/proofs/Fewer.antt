@@ -145,8 +145,3 @@ module _ (G : ℕ → Bool) (n : ℕ) (marks marks' : List ℕ) (whole : length 
   pub choose-gathered : (rules : List StepRule) (p : ℕ) → p < n → G p ≡ true → getD (choose marks Y rules) p 0 ≡ getD (choose marks' Y' rules) (count p G) 0
   unfolding choose
   choose-gathered rules p l g = sym (same-choice rules .inside p l g)
-
-  -- a place without one gets none
-  pub choose-other : (rules : List StepRule) (p : ℕ) → p < n → G p ≡ false → getD (choose marks Y rules) p 0 ≡ 0
-  unfolding choose
-  choose-other rules p l g = same-choice rules .outside p l g

@@ -9,7 +9,6 @@ pub mod Taking
 pub mod Filling
 pub mod Offers
 pub mod Completion
-pub mod Below
 pub mod Chosen
 pub mod Agreement
 pub mod Counts

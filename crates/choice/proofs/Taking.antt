@@ -14,13 +14,13 @@ use Rattle.choice.specs.Use.{useOf}
 use Rattle.choice.specs.Step.{raises, takenBefore, takenForUse}
 use Rattle.choice.proofs.Counting.{test, or-left, or-right, exclude, contra, bit-true, bit-false, tally-split, tally-all}
 use Rattle.choice.proofs.Use.{placed, useOf-nil, useOf-sum, raises-true}
-use Rattle.choice.proofs.Tight.{Placeable, cap-none, only, Tight, union, Apart, only-le, pigeonhole, cross, tight-union, blocked}
+use Rattle.choice.proofs.Tight.{Placeable, cap-none, only, Tight, union, NoMoreOutside, only-le, pigeonhole, cross, tight-union, blocked}
 use Rattle.choice.proofs.Hall.{exhausted}
 use Rattle.choice.proofs.TakingRule.{TakingRule}
 
 -- of two lists of people: those missing from the second hold types that it exhausts
 abbrev Covered : List ℕ → List ℕ → List ℕ → Type 0
-Covered reserved A A′ = (U : ℕ → Bool) × Tight reserved A′ U × Apart (length reserved) U A A′
+Covered reserved A A′ = (U : ℕ → Bool) × Tight reserved A′ U × NoMoreOutside (length reserved) U A A′
 
 module _ (reserved : List ℕ) where
   covered-nil : Covered reserved [] []

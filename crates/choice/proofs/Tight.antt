@@ -129,11 +129,11 @@ pigeonhole reserved (m ∷ A) T e =
         )
 
 -- the people of A who do not hold types of U only are as many in A′, whatever further test they pass
-abbrev pub Apart : ℕ → (ℕ → Bool) → List ℕ → List ℕ → Type 0
-Apart L U A A′ = (P : ℕ → Bool) → ((m : ℕ) → P m ≡ true → only L U m ≡ false) → tally P A ≤ tally P A′
+abbrev pub NoMoreOutside : ℕ → (ℕ → Bool) → List ℕ → List ℕ → Type 0
+NoMoreOutside L U A A′ = (P : ℕ → Bool) → ((m : ℕ) → P m ≡ true → only L U m ≡ false) → tally P A ≤ tally P A′
 
 -- T exhausted by A and U by A′: their union is exhausted by A′
-pub cross : (reserved A A′ : List ℕ) (T U : ℕ → Bool) → Placeable reserved A → Apart (length reserved) U A A′ → Tight reserved A T → Tight reserved A′ U
+pub cross : (reserved A A′ : List ℕ) (T U : ℕ → Bool) → Placeable reserved A → NoMoreOutside (length reserved) U A A′ → Tight reserved A T → Tight reserved A′ U
     → Tight reserved A′ (union T U)
 cross reserved A A′ T U e h t u =
     omega (

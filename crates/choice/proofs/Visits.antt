@@ -48,13 +48,13 @@ pub record Cleared (reserved marks visited before after : List ℕ) (c t : ℕ) 
   pub comes : (p u : ℕ) → 0 < getD visited u 0 → getD after p 0 ≡ suc u → getD before p 0 ≡ suc u
 
 -- how the search ends, by the type that was found
-abbrev pub Ended : (reserved marks visited visited′ before after : List ℕ) (c : ℕ) → Found → Type 0
-Ended reserved marks visited visited′ before after c (At t) = Cleared reserved marks visited before after c t
-Ended reserved marks visited visited′ before after c Nothing = Stuck reserved marks visited visited′ before after c
+abbrev pub SearchEnded : (reserved marks visited visited′ before after : List ℕ) (c : ℕ) → Found → Type 0
+SearchEnded reserved marks visited visited′ before after c (At t) = Cleared reserved marks visited before after c t
+SearchEnded reserved marks visited visited′ before after c Nothing = Stuck reserved marks visited visited′ before after c
 
 -- .. said of lists that are the same
 pub ended-by : (reserved marks : List ℕ) {v v₁ w w₁ b b₁ a a₁ : List ℕ} (c : ℕ) {f f₁ : Found} → v ≡ v₁ → w ≡ w₁ → b ≡ b₁ → a ≡ a₁
-    → f ≡ f₁ → Ended reserved marks v₁ w₁ b₁ a₁ c f₁ → Ended reserved marks v w b a c f
+    → f ≡ f₁ → SearchEnded reserved marks v₁ w₁ b₁ a₁ c f₁ → SearchEnded reserved marks v w b a c f
 ended-by reserved marks c ev ew eb ea ef x = rw (ev, ew, eb, ea, ef) x
 
 -- how many types are not visited

@@ -4,10 +4,11 @@ pub mod placing;
 pub mod step;
 pub mod take;
 
+use round::clearing::clear;
 use step::step;
 ghost use mathlib.Core.Path.{_≡_};
 ghost use Prim.Native.Nat.{suc};
-ghost use lib.ListN.{length, replicate};
+ghost use lib.ListN.{replicate};
 ghost use Rattle.round.specs.Rules.{ruleIn, rulesIn, RuleTable};
 ghost use Rattle.choice.specs.Choice;
 ghost use Rattle.choice.specs.Offers.{offeredBy, Places};
@@ -18,15 +19,6 @@ fn none_handed() -> [usize; 13]
     ensures { λ r. ⌜ r ≡ replicate 13 0 ⌝ }
 {
     [0usize; 13]
-}
-
-// No step for any place.
-fn clear(steps: &mut [u8])
-    ensures { λ _. ⌜ now (steps .exit) ≡ replicate (length (now (steps .entry))) 0 ⌝ }
-{
-    for p in 0..steps.len() {
-        steps[p] = 0;
-    }
 }
 
 // Does the step of row k of the rules, with the positions handed to it, and hands on those that it leaves vacant.
@@ -77,7 +69,7 @@ pub fn choose(
     requires { ⌜ Places (now marks) (now offers) (now steps) ⌝ }
     ensures { λ _. ⌜ now (steps .exit) ≡ Choice.choose (now (marks .entry)) (offeredBy (now (offers .entry))) (rulesIn types count (now (rules .entry))) ⌝ }
 {
-    clear(steps);
+    clear(steps, marks.len());
     let mut handed = none_handed();
     for k in 0..count {
         next_step(rules, types, k, marks, offers, &mut handed, steps);

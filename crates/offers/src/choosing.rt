@@ -1,15 +1,15 @@
 // The second half of a sweep: each institute that got an offer chooses from the entries tried last that name it.
 use crate::gather::gather;
 use crate::scatter::scatter;
-use crate::table::no_rules;
 use crate::table::nobody;
 use crate::table::zeros;
 use choice::choose;
 use round::access::institute_body;
 use round::head::Head;
+use round::rules::rule_table;
 use round::rules::rules_of;
 ghost use mathlib.Core.Path.{_≡_};
-ghost use Prim.Native.Nat.{_≤_, _<_};
+ghost use Prim.Native.Nat.{_<_};
 ghost use lib.ListN.{length};
 ghost use Rattle.round.specs.Reading.{roundOf};
 ghost use Rattle.offers.specs.Held.{AtHand};
@@ -36,7 +36,7 @@ fn choose_anew(
     let mut marks = zeros();
     let mut offers = zeros();
     let mut chosen = zeros();
-    let mut rules = no_rules();
+    let mut rules = rule_table();
     let k = gather(
         file,
         candidates,

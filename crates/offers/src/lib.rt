@@ -1,6 +1,5 @@
 // The offers of a round.
 mod choosing;
-pub mod clearing;
 mod gather;
 mod offering;
 pub mod process;

@@ -1,5 +1,4 @@
 // The first half of a sweep: everybody who may offer offers the best untried entry, each once.
-use crate::table::narrow;
 use round::access::row_entry;
 use round::access::row_length;
 use round::entry::Category;
@@ -58,7 +57,7 @@ fn offer_next(
     let institute = entry.institute;
     let category = entry.category;
     tried[i] += 1;
-    asked[i] = narrow(institute);
+    asked[i] = institute as u8;
     wanted[i] = only(category);
     fresh[institute - 1] = 1;
 }

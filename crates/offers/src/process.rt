@@ -4,10 +4,10 @@
 // offers in number order (`Rounds/Sweeps`), and offers in any order end alike (`Rounds/AnyOrder`); the entries tried last give the same
 // steps as all offers (`Rounds/Last`).
 use crate::choosing::choose_all;
-use crate::clearing::clear;
 use crate::offering::offer_all;
 use crate::table::none_fresh;
 use crate::table::zeros;
+use round::clearing::clear;
 use round::head::Head;
 ghost use mathlib.Core.Path.{_≡_};
 ghost use lib.ListN.{length, replicate};

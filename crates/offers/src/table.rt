@@ -1,6 +1,5 @@
 // Tables of bytes, with one for each candidate or for each place of a merit list.
 ghost use mathlib.Core.Path.{_≡_};
-ghost use Prim.Native.Nat.{_<_};
 ghost use lib.ListN.{length, replicate};
 
 // A table of zeros.
@@ -22,19 +21,4 @@ pub fn none_fresh() -> [u8; 32]
     ensures { λ r. ⌜ length r ≡ 32 ⌝ }
 {
     [0; 32]
-}
-
-// Room for the step rules of an institute.
-pub fn no_rules() -> [usize; 66]
-    ensures { λ r. ⌜ length r ≡ 66 ⌝ }
-{
-    [0; 66]
-}
-
-// A small number as a byte.
-pub fn narrow(x: usize) -> u8
-    requires { ⌜ x < 256 ⌝ }
-    ensures { λ r. ⌜ r ≡ x ⌝ }
-{
-    x as u8
 }

@@ -2,30 +2,14 @@
 // itself. Not part of the unit.
 use choice::choose;
 use round::reader::Reading;
+use round::reader::candidate_table;
+use round::reader::institute_table;
 use round::reader::read_round;
+use round::rules::rule_table;
 use round::rules::rules_of;
 ghost use mathlib.Core.Path.{_≡_};
-ghost use lib.ListN.{length};
 ghost use Rattle.round.specs.Refusal.{verdict};
 ghost use Rattle.probe.specs.Probe.{verdictIn, fitting, stepsAfter};
-
-fn candidate_table() -> [usize; 512]
-    ensures { λ r. ⌜ length r ≡ 512 ⌝ }
-{
-    [0; 512]
-}
-
-fn merit_table() -> [usize; 32]
-    ensures { λ r. ⌜ length r ≡ 32 ⌝ }
-{
-    [0; 32]
-}
-
-fn rule_table() -> [usize; 66]
-    ensures { λ r. ⌜ length r ≡ 66 ⌝ }
-{
-    [0; 66]
-}
 
 // The number of the first of questions 1 to 13 that is answered no, and its byte; 0 and 0 where each is answered yes.
 #[no_mangle]
@@ -33,7 +17,7 @@ pub extern "C" fn tazbilk_verdict(file: &[u8], result: &mut [u64; 2])
     ensures { λ _. ⌜ now (result .exit) ≡ verdictIn (now (result .entry)) (verdict (now (file .entry))) ⌝ }
 {
     let mut candidates = candidate_table();
-    let mut merits = merit_table();
+    let mut merits = institute_table();
     let got = read_round(file, &mut candidates, &mut merits);
     match got {
         Reading::Read(_) => {

@@ -8,5 +8,4 @@ pub mod Run
 pub mod Rest
 pub mod Prefix
 pub mod Bodies
-pub mod Codes
 pub mod Rows

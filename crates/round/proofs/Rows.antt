@@ -21,12 +21,12 @@ pub row-start : (types k m : ℕ) → types ≤ 8 → k ≤ m → k * (3 + types
 row-start types k m few small = let w : 3 + types ≤ 11 = omega arith in mul-le-mul small w
 
 -- the places from `at` on hold F 0, .., F (t - 1), and those before `at` what they held
-pub record Row (at t : ℕ) (F : ℕ → ℕ) (before after : List ℕ) : Type 0 where
+pub record RowFrom (at t : ℕ) (F : ℕ → ℕ) (before after : List ℕ) : Type 0 where
   pub sized : length after ≡ length before
   pub here : (s : ℕ) → s < t → getD after (at + s) 0 ≡ F s
   pub kept : (q : ℕ) → q < at → getD after q 0 ≡ getD before q 0
 
-pub row-begin : (at : ℕ) (F : ℕ → ℕ) (l : List ℕ) → Row at 0 F l l
+pub row-begin : (at : ℕ) (F : ℕ → ℕ) (l : List ℕ) → RowFrom at 0 F l l
 row-begin at F l = record { sized = refl; here = λ s b. absurd (omega arith); kept = λ q b. refl }
 
 equal-or : {A : Type 0} (a b : ℕ) → (a ≡ b → A) → ((a ≡ b → ⊥) → A) → A
@@ -43,7 +43,7 @@ less-or {A} a b less other = go (ltb a b) refl
     go true e = less (ltb-true a b e)
     go false e = other (ltb-false a b e)
 
-pub row-write : (at t v : ℕ) (F : ℕ → ℕ) (l₀ l : List ℕ) → Row at t F l₀ l → at + t < length l₀ → v ≡ F t → Row at (t + 1) F l₀ (set l (at + t) v)
+pub row-write : (at t v : ℕ) (F : ℕ → ℕ) (l₀ l : List ℕ) → RowFrom at t F l₀ l → at + t < length l₀ → v ≡ F t → RowFrom at (t + 1) F l₀ (set l (at + t) v)
 row-write at t v F l₀ l r inside e = record {
   sized = length-set l (at + t) v ∙ r .sized;
   here = λ s b.
@@ -52,16 +52,16 @@ row-write at t v F l₀ l r inside e = record {
   kept = λ q b. getD-set-other l (at + t) q v 0 (λ z. omega arith) ∙ r .kept q b;
 }
 
-row-first : (at v : ℕ) (F : ℕ → ℕ) (l : List ℕ) → at < length l → v ≡ F 0 → Row at 1 F l (set l at v)
+row-first : (at v : ℕ) (F : ℕ → ℕ) (l : List ℕ) → at < length l → v ≡ F 0 → RowFrom at 1 F l (set l at v)
 row-first at v F l inside e = rw add-zero at (row-write at 0 v F l l (row-begin at F l) (omega arith) e)
 
 -- the first three places of a row, and those after them
 row-head : (at u v w : ℕ) (F : ℕ → ℕ) (l : List ℕ) → at + 2 < length l → u ≡ F 0 → v ≡ F 1 → w ≡ F 2
-    → Row at 3 F l (set (set (set l at u) (at + 1) v) (at + 2) w)
+    → RowFrom at 3 F l (set (set (set l at u) (at + 1) v) (at + 2) w)
 row-head at u v w F l inside e₀ e₁ e₂ =
     row-write at 2 w F l _ (row-write at 1 v F l _ (row-first at u F l (omega arith) e₀) (omega arith) e₁) inside e₂
 
-row-join : (at m t : ℕ) (F G : ℕ → ℕ) (a b c : List ℕ) → ((s : ℕ) → G s ≡ F (m + s)) → Row at m F a b → Row (at + m) t G b c → Row at (m + t) F a c
+row-join : (at m t : ℕ) (F G : ℕ → ℕ) (a b c : List ℕ) → ((s : ℕ) → G s ≡ F (m + s)) → RowFrom at m F a b → RowFrom (at + m) t G b c → RowFrom at (m + t) F a c
 row-join at m t F G a b c same r q = record {
   sized = q .sized ∙ r .sized;
   here = λ s l.
@@ -74,12 +74,12 @@ row-join at m t F G a b c same r q = record {
 }
 
 -- the whole row
-row-done : (types k n : ℕ) (F : ℕ → ℕ) (before after : List ℕ) → 3 + types ≤ n → F 2 ≤ 65535 → Row (k * (3 + types)) n F before after
+row-done : (types k n : ℕ) (F : ℕ → ℕ) (before after : List ℕ) → 3 + types ≤ n → F 2 ≤ 65535 → RowFrom (k * (3 + types)) n F before after
     → RowWritten types k F before after
 row-done types k n F before after all small r = record { here = λ s l. r .here s (omega arith); own-most = small; kept = r .kept }
 
 -- a row of zeros
-pub zero-row : (types k : ℕ) (before after : List ℕ) (n : ℕ) → 3 + types ≤ n → Row (k * (3 + types)) n (λ s. 0) before after → RowWritten types k (λ s. 0) before after
+pub zero-row : (types k : ℕ) (before after : List ℕ) (n : ℕ) → 3 + types ≤ n → RowFrom (k * (3 + types)) n (λ s. 0) before after → RowWritten types k (λ s. 0) before after
 zero-row types k before after n all r = row-done types k n (λ s. 0) before after all (omega arith) r
 
 type-number : (types : ℕ) (body : List ℕ) (code receiver t : ℕ) → rowOf types body code receiver (3 + t) ≡ reservedIn types body code t
@@ -88,7 +88,7 @@ type-number types body code receiver t = let e : 3 + t ≡ suc (suc (suc t)) = o
 -- the row of a code: its first three numbers are written, then those of the types
 pub rule-row : (types : ℕ) (body : List ℕ) (code receiver own t : ℕ) (before after : List ℕ) → types ≤ t
     → code * (3 + types) + (3 + types) ≤ length before → own ≡ positionsIn types body code → own ≤ 65535
-    → Row (code * (3 + types) + 3) t (reservedIn types body code) (set (set (set before (code * (3 + types)) code) (code * (3 + types) + 1) receiver) (code * (3 + types) + 2) own) after
+    → RowFrom (code * (3 + types) + 3) t (reservedIn types body code) (set (set (set before (code * (3 + types)) code) (code * (3 + types) + 1) receiver) (code * (3 + types) + 2) own) after
     → RowWritten types code (rowOf types body code receiver) before after
 rule-row types body code receiver own t before after all long e small r =
     row-done types code (3 + t) row before after (omega arith) (omega arith)
@@ -98,15 +98,15 @@ rule-row types body code receiver own t before after all long e small r =
     row = rowOf types body code receiver
 
 -- the rows below k hold R, with own positions of two bytes
-pub record Rows (types k : ℕ) (R : ℕ → ℕ → ℕ) (table : List ℕ) : Type 0 where
+pub record RowsTo (types k : ℕ) (R : ℕ → ℕ → ℕ) (table : List ℕ) : Type 0 where
   pub hold : (i : ℕ) → i < k → (s : ℕ) → s < 3 + types → numberIn types table i s ≡ R i s
   pub own-most : (i : ℕ) → i < k → R i 2 ≤ 65535
 
-pub no-rows : (types : ℕ) (R : ℕ → ℕ → ℕ) (table : List ℕ) → Rows types 0 R table
+pub no-rows : (types : ℕ) (R : ℕ → ℕ → ℕ) (table : List ℕ) → RowsTo types 0 R table
 no-rows types R table = record { hold = λ i l. absurd (omega arith); own-most = λ i l. absurd (omega arith) }
 
-pub rows-more : (types k : ℕ) (R : ℕ → ℕ → ℕ) (row : ℕ → ℕ) (before after : List ℕ) → Rows types k R before → RowWritten types k row before after
-    → ((s : ℕ) → row s ≡ R k s) → Rows types (k + 1) R after
+pub rows-more : (types k : ℕ) (R : ℕ → ℕ → ℕ) (row : ℕ → ℕ) (before after : List ℕ) → RowsTo types k R before → RowWritten types k row before after
+    → ((s : ℕ) → row s ≡ R k s) → RowsTo types (k + 1) R after
 rows-more types k R row before after rows w same = record {
   hold = λ i l s b.
       equal-or i k (λ z. rw z (w .here s b ∙ same s))
@@ -125,7 +125,7 @@ from-same : {A : Type 0} (i n : ℕ) (f g : ℕ → A) → ((p : ℕ) → p < i 
 from-same i zero f g h = refl
 from-same i (suc n) f g h = rw (h i (omega arith), from-same (suc i) n f g (λ p l. h p (omega arith)))
 
-rule-at : (types k : ℕ) (R : ℕ → ℕ → ℕ) (table : List ℕ) → Rows types k R table → (i : ℕ) → i < k → ruleIn types table i ≡ ruleOf types (R i)
+rule-at : (types k : ℕ) (R : ℕ → ℕ → ℕ) (table : List ℕ) → RowsTo types k R table → (i : ℕ) → i < k → ruleIn types table i ≡ ruleOf types (R i)
 unfolding ruleIn
 rule-at types k R table rows i l =
     rw (
@@ -158,7 +158,7 @@ module _ (types policy : ℕ) (body : List ℕ) where
       go false = omega arith
 
   module _ (table : List ℕ) (few : types ≤ 8) (long : 66 ≤ length table) where
-    rule-table : (k : ℕ) → k ≤ 6 → Rows types k (policyRows types policy body) table → RuleTable types k table
+    rule-table : (k : ℕ) → k ≤ 6 → RowsTo types k (policyRows types policy body) table → RuleTable types k table
     rule-table k small rows = record {
       types-most = few;
       steps-most = omega arith;
@@ -168,7 +168,7 @@ module _ (types policy : ℕ) (body : List ℕ) where
       own-most = λ i l. rw (rows .hold i l 2 (omega arith)) (rows .own-most i l);
     }
 
-    module _ (k : ℕ) (rows : Rows types k (policyRows types policy body) table) where
+    module _ (k : ℕ) (rows : RowsTo types k (policyRows types policy body) table) where
       step-rule : (i receiver : ℕ) → i < k → i < 5 → receiverOf policy i ≡ receiver → ruleIn types table i ≡ stepIn types body i receiver
       unfolding stepIn
       step-rule i receiver l m e =
@@ -184,7 +184,7 @@ module _ (types policy : ℕ) (body : List ℕ) where
       last-rule l = rule-at types k _ table rows 5 l ∙ rw (zeros 0 types)
 
     -- the table of policy 0, and that of policy 1 with the row of step 6
-    pub five-rules : eqb policy 1 ≡ false → Rows types 5 (policyRows types policy body) table → RulesRead types policy body table 5
+    pub five-rules : eqb policy 1 ≡ false → RowsTo types 5 (policyRows types policy body) table → RulesRead types policy body table 5
     five-rules e rows = record {
       table-of = rule-table 5 (omega arith) rows;
       rules-of =
@@ -199,7 +199,7 @@ module _ (types policy : ℕ) (body : List ℕ) where
           );
     }
 
-    pub six-rules : eqb policy 1 ≡ true → Rows types 6 (policyRows types policy body) table → RulesRead types policy body table 6
+    pub six-rules : eqb policy 1 ≡ true → RowsTo types 6 (policyRows types policy body) table → RulesRead types policy body table 6
     six-rules e rows = record {
       table-of = rule-table 6 (omega arith) rows;
       rules-of =

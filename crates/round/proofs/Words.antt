@@ -11,7 +11,7 @@ use borrow.Author.Tests.{not-true, not-false, le-leb, lt-leb}
 use Rattle.round.specs.Records.{word}
 use Rattle.round.specs.Questions.{within}
 use lib.Dec.{leb, ltb}
-use lib.ListN.{length, getD}
+use lib.ListN.{length, getD, replicate, length-append, length-replicate}
 use Rattle.round.specs.Lists.{tabulate, tabulateFrom, sum, sumOf, all, apart}
 
 -- true is not false
@@ -203,3 +203,8 @@ cond-yes x y e d = rw e d
 
 pub cond-no : {A : Type 0} {b : Bool} {z : A} (x y : A) → b ≡ false → z ≡ y → z ≡ cond b x y
 cond-no x y e d = rw e d
+
+-- a table that was cleared as far as it goes
+pub cleared : (n : ℕ) (rest after : List ℕ) → after ≡ replicate n 0 ++ rest → length after ≡ n → after ≡ replicate n 0
+cleared n [] after e many = e ∙ append-none (replicate n 0)
+cleared n (x ∷ rest) after e many = absurd (omega (arith, simp (length-append, length-replicate) at (ap length e)))

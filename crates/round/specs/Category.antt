@@ -1,11 +1,9 @@
 -- The codes of the categories (document 01, "The unit": "Categories have codes").
 use Prim.Native.Nat.{ℕ}
 use mathlib.Core.Bool.{cond}
-use lib.Dec.{leb, eqb}
+use lib.Dec.{eqb}
 use Rattle.round.specs.declared.entry.Category.{Category}
 use Rattle.round.specs.declared.entry.Category.the-variants.{Open, SC, ST, OBC, EWS}
-use Rattle.round.specs.declared.entry.Coded.{Coded}
-use Rattle.round.specs.declared.entry.Coded.the-variants.{Known, Unknown}
 
 -- 0 open, 1 SC, 2 ST, 3 OBC, 4 EWS
 abbrev pub codeOf : Category → ℕ
@@ -18,7 +16,3 @@ codeOf EWS = 4
 -- the category of a code; open for a number that is no code, which no accepted file holds
 abbrev pub categoryOf : ℕ → Category
 categoryOf code = cond (eqb code 1) SC (cond (eqb code 2) ST (cond (eqb code 3) OBC (cond (eqb code 4) EWS Open)))
-
--- the category of a code, where the number is one
-abbrev pub codedBy : ℕ → Coded
-codedBy code = cond (leb code 4) (Known (categoryOf code)) Unknown

@@ -1,6 +1,6 @@
 // Entries: an institute together with a category.
 ghost use mathlib.Core.Path.{_≡_};
-ghost use Rattle.round.specs.Category.{codeOf, categoryOf, codedBy};
+ghost use Rattle.round.specs.Category.{codeOf, categoryOf};
 
 // The five categories; `Open` of a candidate is the general category.
 pub enum Category {
@@ -17,12 +17,6 @@ pub struct Entry {
     pub category: Category,
 }
 
-// What a byte stands for: the category whose code it is, or nothing from 5 on.
-pub enum Coded {
-    Known(Category),
-    Unknown,
-}
-
 // The code of a category.
 pub fn code_of(category: Category) -> u8
     ensures { λ r. ⌜ r ≡ codeOf category ⌝ }
@@ -36,27 +30,15 @@ pub fn code_of(category: Category) -> u8
     }
 }
 
-// The category of a code.
-pub fn coded_by(code: u8) -> Coded
-    ensures { λ r. ⌜ r ≡ codedBy code ⌝ }
-{
-    match code {
-        0 => Coded::Known(Category::Open),
-        1 => Coded::Known(Category::SC),
-        2 => Coded::Known(Category::ST),
-        3 => Coded::Known(Category::OBC),
-        4 => Coded::Known(Category::EWS),
-        _ => Coded::Unknown,
-    }
-}
-
 // The category of a code that stands in an accepted file; open for a number that is no code.
 pub fn category_of(code: u8) -> Category
     ensures { λ r. ⌜ r ≡ categoryOf code ⌝ }
 {
-    let got = coded_by(code);
-    let Coded::Known(category) = got else {
-        return Category::Open;
-    };
-    category
+    match code {
+        1 => Category::SC,
+        2 => Category::ST,
+        3 => Category::OBC,
+        4 => Category::EWS,
+        _ => Category::Open,
+    }
 }

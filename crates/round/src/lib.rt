@@ -1,6 +1,7 @@
 // What a round file holds, and its reader.
 pub mod access;
 pub mod candidate;
+pub mod clearing;
 pub mod entry;
 pub mod head;
 pub mod institute;

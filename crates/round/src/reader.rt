@@ -30,8 +30,15 @@ fn handed(got: Part) -> Reading
     }
 }
 
-// A table for where the institutes' records start, which nobody asks later: they have one length.
-fn no_places() -> [usize; 32]
+// A table for where the records of the candidates start.
+pub fn candidate_table() -> [usize; 512]
+    ensures { λ r. ⌜ length r ≡ 512 ⌝ }
+{
+    [0; 512]
+}
+
+// A table for where the records of the institutes, or of their merit lists, start.
+pub fn institute_table() -> [usize; 32]
     ensures { λ r. ⌜ length r ≡ 32 ⌝ }
 {
     [0; 32]
@@ -49,13 +56,13 @@ fn unread() -> Head
     }
 }
 
-// The institutes' records, from behind the head.
+// The institutes' records, from behind the head. Nobody asks later where they start: they have one length.
 fn read_institutes(file: &[u8], from: usize, h: Head) -> Part
     requires { ⌜ InRange (asHead h) ⌝ }
     requires { ⌜ from ≤ length (now file) ⌝ }
     ensures { λ r. ⌜ RunPart (now (file .entry)) (asHead h) 2 (h .institutes) from r ⌝ }
 {
-    let mut places = no_places();
+    let mut places = institute_table();
     read_kind(file, from, h, 2, h.institutes, &mut places)
 }
 

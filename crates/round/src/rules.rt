@@ -7,6 +7,13 @@ ghost use lib.ListN.{length};
 ghost use Rattle.round.specs.Read.{InstituteBody};
 ghost use Rattle.round.specs.Rules.{rowOf, receiverOf, RowWritten, RulesRead};
 
+// A table for the rules of policies 0 and 1.
+pub fn rule_table() -> [usize; 66]
+    ensures { λ r. ⌜ length r ≡ 66 ⌝ }
+{
+    [0; 66]
+}
+
 // The step that gets the vacancies of a code's step, 0 for none.
 fn receiver_of(policy: usize, code: usize) -> usize
     ensures { λ r. ⌜ r ≡ receiverOf policy code ⌝ }

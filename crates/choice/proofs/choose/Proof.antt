@@ -1,15 +1,15 @@
 -- `choice::choose` meets its contract: each turn of the loop is a step of the definition. Assumes nothing.
-use Prim.Native.Nat.{ℕ, _-_, _≤_}
-use mathlib.Core.Path.{sym, ap, _∙_}
+use Prim.Native.Nat.{_-_, _≤_}
+use mathlib.Core.Path.{sym, _∙_}
 use native.Mathlib.Omega.{arith}
-use lib.ListN.{replicate}
-use Rattle.choice.proofs.Choosing.{fewer-rules, Going, set-out, go-on, arrive}
+use Rattle.round.proofs.Words.{cleared}
+use Rattle.choice.proofs.Choosing.{fewer-rules, Stepping, set-out, go-on, arrive}
 use borrow.Author.Needs.{needs}
 use Rattle.choice.proofs.choose.Statement.{statement}
 use Rattle.choice.proofs.choose.Tie as tie
 
 abbrev Inv-loop : tie.InvT-loop
-Inv-loop rules types count marks offers steps₀ handed₀ k₀ steps handed k = (k ≤ count) × Going marks offers rules types count k steps handed
+Inv-loop rules types count marks offers steps₀ handed₀ k₀ steps handed k = (k ≤ count) × Stepping marks offers rules types count k steps handed
 
 abbrev μ-loop : tie.MeasureT-loop
 μ-loop rules types count marks offers steps₀ handed₀ k₀ steps handed k = count - k
@@ -25,9 +25,9 @@ none-handed-requires c κs = search needs
 
 loop-holds : tie.Need-loop-holds Inv-loop μ-loop
 loop-holds c =
-    let cleared = c .before .before .before in
+    let done = c .before .before .before in
     let s = start c in
-    (omega arith, set-out (s .args .marks .now) (s .args .offers .now) (s .args .rules .now) (s .args .types) (s .args .count) _ _ (cleared .clear .ensures ∙ ap (λ (n : ℕ). replicate n 0) (s .pre .1 .steps-each)) (c .none-handed .ensures))
+    (omega arith, set-out (s .args .marks .now) (s .args .offers .now) (s .args .rules .now) (s .args .types) (s .args .count) _ _ (cleared _ _ _ (done .clear .ensures) (done .clear .kept .0 ∙ s .pre .1 .steps-each)) (c .none-handed .ensures))
 
 slice-aggregate-next-step : tie.Need-slice-aggregate-next-step Inv-loop μ-loop
 slice-aggregate-next-step c = let l = c .before .before in sym (l .loop .inv .1 .handing .sized)

@@ -9,7 +9,7 @@ use Rattle.round.specs.Round.{Round}
 use Rattle.round.specs.Sound.{Sound}
 use Rattle.choice.proofs.Counting.{clash}
 use Rattle.offers.specs.Rows.{categoryAt}
-use Rattle.offers.specs.Process.{candidateCount, instituteCount, seatsAfter, mayOffer, tried}
+use Rattle.offers.specs.Process.{candidateCount, instituteCount, seatsAfter, mayOffer}
 use Rattle.offers.specs.Ended.{Ended, AtEnd}
 use Rattle.offers.proofs.Market.Reached.{Served}
 use Rattle.offers.proofs.Rounds.Numbered.{numberOf, rowsOf, number-same}

@@ -66,12 +66,6 @@ module _ {types : ℕ} {r : Round} (sound : Sound types r) where
       let here : rank ≡ p = sym (ap (λ (x : Entry). rankIn (rowAt r i) x) same) ∙ rank-place r i (sound .candidate i hi) p l in
       eq-eqb (suc rank) (getD state i 0) (omega arith))
 
-  -- when a candidate has offered, the entry tried last is the one just offered
-  pub last-offered : (state : List ℕ) (i : ℕ) → i < length state → i < candidateCount r → getD state i 0 < length (rowAt r i) → (j : ℕ) (c : Category)
-      → lastTo r (set state i (suc (getD state i 0))) j i c ≡ sameEntry (entryAt (candidateAt r i) (getD state i 0)) (entryOf j c)
-  last-offered state i inside hi more =
-      last-at (set state i (suc (getD state i 0))) i (getD state i 0) hi more (getD-set-same state i (suc (getD state i 0)) 0 inside)
-
   module _ {before : List ℕ} (run : Running r before) where
     -- the next candidate may offer and does
     pub one-swept : {k : ℕ} {now : List ℕ} → Swept r before k now → k < candidateCount r → mayOffer r before (seatsAfter r before) k ≡ true

@@ -32,8 +32,8 @@ module _ (r : Round) (asked wanted fresh₀ steps₀ : List ℕ) where
 
   module _ {k : ℕ} {steps fresh : List ℕ} (s : Choosing r asked wanted fresh₀ k steps₀ steps fresh) where
     -- institute k got no offer
-    pub one-spared : getD fresh k 0 ≡ 0 → Choosing r asked wanted fresh₀ (k + 1) steps₀ steps fresh
-    one-spared z = record {
+    pub one-spared : getD fresh k 0 ≡ 0 → {steps' fresh' : List ℕ} → fresh' ≡ fresh → steps' ≡ steps → Choosing r asked wanted fresh₀ (k + 1) steps₀ steps' fresh'
+    one-spared z ef es = rw (ef, es) record {
       chosen = record {
         many = s .chosen .many;
         chose = λ c j hc l e d. sameOr j k (λ q. absurd (d (ap (λ x. getD fresh₀ x 0) q ∙ sym (s .ahead k (omega arith)) ∙ z))) (λ n. s .chosen .chose c j hc (omega arith) e d);
@@ -50,9 +50,9 @@ module _ (r : Round) (asked wanted fresh₀ steps₀ : List ℕ) where
     untouched a c hc n = a .step c hc ∙ rw (ne-eqb (getD asked c 0) (suc k) n, and-false (ltb (placeOn r k c) (length (instituteAt r k .merit))))
 
     -- institute k has chosen
-    pub one-chosen : getD fresh k 0 ≢ 0 → {steps' fresh' : List ℕ} → fresh' ≡ set fresh k 0 → ChosenAnew r k asked wanted steps steps'
+    pub one-chosen : getD fresh k 0 ≢ 0 → {steps₁ steps' fresh' : List ℕ} → fresh' ≡ set fresh k 0 → steps' ≡ steps₁ → ChosenAnew r k asked wanted steps steps₁
         → Choosing r asked wanted fresh₀ (k + 1) steps₀ steps' fresh'
-    one-chosen d {steps'} {fresh'} ef a = record {
+    one-chosen d {steps₁} {steps'} {fresh'} ef es a = rw es record {
       chosen = record {
         many = a .many ∙ s .chosen .many;
         chose = λ c j hc l e f. sameOr j k (λ q. rw q (here c hc (e ∙ ap suc q)))
@@ -64,9 +64,13 @@ module _ (r : Round) (asked wanted fresh₀ steps₀ : List ℕ) where
       ahead = λ j l. ap (λ (t : List ℕ). getD t j 0) ef ∙ getD-set-other fresh k j 0 0 (λ e. omega arith) ∙ s .ahead j (omega arith);
     }
       where
-        here : (c : ℕ) → c < candidateCount r → getD asked c 0 ≡ suc k → getD steps' c 0
+        here : (c : ℕ) → c < candidateCount r → getD asked c 0 ≡ suc k → getD steps₁ c 0
             ≡ cond (takesPart r k (offerTo (suc k) asked wanted) c) (stepFor r k (offersBy (offerTo (suc k) asked wanted)) c) (getD steps₀ c 0)
         here c hc e =
             a .step c hc
             ∙ ap (λ x. cond (takesPart r k (offerTo (suc k) asked wanted) c) (stepFor r k (offersBy (offerTo (suc k) asked wanted)) c) x)
             (s .chosen .kept c hc (λ j l w. absurd (omega arith)))
+
+    -- all have had their turn
+    pub all-chosen : (n : ℕ) → k ≡ n → ChosenAll r asked wanted fresh₀ n steps₀ steps
+    all-chosen n e = rw e at (s .chosen)

@@ -6,13 +6,15 @@ use mathlib.Core.List.{List, [], _∷_, map}
 use native.Mathlib.Omega.{arith}
 use native.Mathlib.Nat.{zero-div}
 use lib.Dec.{eqb, ltb}
-use lib.ListN.{length, getD, take, length-map}
+use lib.ListN.{length, getD, take, replicate, length-map}
 use lib.Seq.{length-take-le}
 use borrow.Author.Tests.{ltb-true, lt-ltb, eqb-true, not-false}
 use Rattle.round.specs.declared.entry.Category.{Category}
 use Rattle.round.specs.Category.{codeOf}
 use Rattle.round.specs.Lists.{count}
 use Rattle.round.specs.Round.{StepRule, Round}
+use Rattle.round.specs.declared.head.Head.{Head as CodeHead}
+use Rattle.round.specs.Reading.{roundOf}
 use Rattle.round.specs.Places.{candidateAt, instituteAt}
 use Rattle.round.specs.Sound.{SoundInstitute}
 use Rattle.round.proofs.Words.{and-fst, and-snd}
@@ -20,12 +22,15 @@ use Rattle.choice.specs.Use.{holds}
 use Rattle.choice.specs.Choice.{choose}
 use Rattle.choice.specs.Offers.{offeredBy}
 use Rattle.choice.specs.Gathers.{Gathers}
+use Rattle.choice.proofs.Steps.{sized}
 use Rattle.choice.proofs.Counting.{test, clash}
 use Rattle.choice.proofs.Fewer.{SameAmong, number-below, choose-gathered}
 use Rattle.offers.specs.Offers.{candidateOn, placeOn, stepsOn, stepFor}
+use Rattle.offers.specs.Held.{AtHand}
 use Rattle.offers.specs.Sweeps.{offerTo, marksOf, offersBy, offersAt, takesPart, Gathered, ChosenAnew, Apart, Scattered}
 use Rattle.offers.proofs.Rounds.Places.{meritLength, candidate-at, candidate-below, place-of}
 use Rattle.offers.proofs.Rounds.Completed.{marksOn, atPlaces}
+use Rattle.offers.proofs.Sweeps.Known.{institute-sound, merit-few, candidates-many, knows-merit}
 use Rattle.offers.proofs.Sweeps.Gathers.{count-most, gathers-front, place-at}
 
 getD-map-in : (f : ℕ → ℕ) (l : List ℕ) (p : ℕ) → p < length l → getD (map f l) p 0 ≡ f (getD l p 0)
@@ -47,7 +52,7 @@ module _ (r : Round) (j : ℕ) {n types : ℕ} (sound : SoundInstitute n types (
   abbrev L : ℕ
   L = meritLength r j
 
-  pub listed-most : k ≤ L
+  listed-most : k ≤ L
   listed-most = omega (arith, g .number, count-most X L)
 
   who-front : Gathers X L (candidateOn r j) (take k who)
@@ -59,7 +64,7 @@ module _ (r : Round) (j : ℕ) {n types : ℕ} (sound : SoundInstitute n types (
       let (p, m, x, at) = place-at X L q (omega (arith, g .number)) in
       (p, m, x, at, ap (λ (q : ℕ). getD (take k who) q 0) (sym at) ∙ who-front p m x)
 
-  pub listed-apart : {m : ℕ} → n ≡ m → Apart (take k who) m k
+  listed-apart : {m : ℕ} → n ≡ m → Apart (take k who) m k
   listed-apart e = record {
     within = λ q l. let (p, m, x, at, is) = listed q l in omega (arith, is, candidate-below r j sound p m);
     once = λ q q' l m same.
@@ -123,24 +128,38 @@ module _ (r : Round) (j : ℕ) {n types : ℕ} (sound : SoundInstitute n types (
       rw t (ap (λ (b : ℕ). getD after b 0) (sym is) ∙ s .at (count (placeOn r j c) X) (part-number c t)))
       (λ t. rw t (s .off c (λ q m e. clash (ap (takesPart r j offer) (sym e) ∙ listed-part q m) t)))
 
--- listed, chosen and put into the table
-pub chosen-anew : (r : Round) (j : ℕ) {n types : ℕ} → SoundInstitute n types (instituteAt r j)
-    → (asked wanted : List ℕ) {steps₀ steps who marks offers found : List ℕ} {rules : List StepRule} {k : ℕ}
-    → Gathered r j (offerTo (suc j) asked wanted) (meritLength r j) who marks offers k → k ≤ length who → k ≤ length marks
-    → found ≡ choose (take k marks) (offeredBy (take k offers)) rules → rules ≡ instituteAt r j .steps
-    → Scattered (take k who) (λ q. getD found q 0) (length (take k who)) steps₀ steps
-    → ChosenAnew r j asked wanted steps₀ steps
-unfolding stepFor
-chosen-anew r j sound asked wanted {steps₀} {steps} {who} {found = found} {k = k} g fits fit ec er s =
-    let offer : ℕ → ℕ = offerTo (suc j) asked wanted in
-    let s' : Scattered (take k who) (λ q. getD found q 0) k steps₀ steps = rw (length-take-le k who fits) at s in
-    record {
-      many = s .many;
-      step = λ c l.
-          seat-at r j sound offer g s' c
-          ∙ test (takesPart r j offer c)
-          (λ t.
-          let (m, x, is) = part-at r j sound offer g c t in
-          rw (t, found-at r j sound offer g fit ec er (placeOn r j c) m x))
-          (λ t. rw t);
-    }
+-- the offers to an institute of the file are listed, in tables that had room for every candidate
+module _ {file : List ℕ} {h : CodeHead} {candidates merits : List ℕ} (hand : AtHand file h candidates merits) {j : ℕ} (inside : j < h .institutes) (asked wanted : List ℕ)
+    {who marks offers : List ℕ} {k : ℕ} (g : Gathered (roundOf file) j (offerTo (suc j) asked wanted) (meritLength (roundOf file) j) who marks offers k) where
+  pub listed-few : k ≤ 512
+  listed-few =
+      let known = knows-merit hand inside in
+      omega (arith, merit-few known, listed-most (roundOf file) j (institute-sound known) (offerTo (suc j) asked wanted) g)
+
+  pub front-fits : (l₀ l : List ℕ) → l₀ ≡ replicate 512 0 → length l ≡ length l₀ → k ≤ length l
+  front-fits l₀ l zeros same = omega (arith, listed-few, sized 512 zeros)
+
+  pub front-apart : (steps : List ℕ) → length steps ≡ h .candidates → Apart (take k who) (length steps) k
+  front-apart steps each =
+      listed-apart (roundOf file) j (institute-sound (knows-merit hand inside)) (offerTo (suc j) asked wanted) g (candidates-many hand ∙ sym each)
+
+  -- listed, chosen and put into the table
+  pub chosen-anew : {steps₀ steps found : List ℕ} {rules : List StepRule} → k ≤ length who → k ≤ length marks
+      → found ≡ choose (take k marks) (offeredBy (take k offers)) rules → rules ≡ instituteAt (roundOf file) j .steps
+      → Scattered (take k who) (λ q. getD found q 0) (length (take k who)) steps₀ steps
+      → ChosenAnew (roundOf file) j asked wanted steps₀ steps
+  unfolding stepFor
+  chosen-anew {steps₀} {steps} {found} fits fit ec er s =
+      let offer : ℕ → ℕ = offerTo (suc j) asked wanted in
+      let sound = institute-sound (knows-merit hand inside) in
+      let s' : Scattered (take k who) (λ q. getD found q 0) k steps₀ steps = rw (length-take-le k who fits) at s in
+      record {
+        many = s .many;
+        step = λ c l.
+            seat-at (roundOf file) j sound offer g s' c
+            ∙ test (takesPart (roundOf file) j offer c)
+            (λ t.
+            let (m, x, is) = part-at (roundOf file) j sound offer g c t in
+            rw (t, found-at (roundOf file) j sound offer g fit ec er (placeOn (roundOf file) j c) m x))
+            (λ t. rw t);
+      }

@@ -14,10 +14,12 @@ use Rattle.round.specs.Lists.{count}
 use Rattle.round.specs.Round.{Round}
 use Rattle.round.specs.Places.{candidateAt, instituteAt, meritAt}
 use Rattle.round.specs.Reading.{roundOf}
+use Rattle.round.specs.Access.{MeritKnown}
 use Rattle.choice.specs.Gathers.{Gathers}
 use Rattle.choice.proofs.Counting.{test, clash, bit-true, bit-false, bit-max}
 use Rattle.choice.proofs.Fewer.{number-below}
 use Rattle.offers.specs.Offers.{candidateOn}
+use Rattle.offers.proofs.Sweeps.Known.{merit-few}
 use Rattle.offers.specs.Sweeps.{offerTo, marksOf, offersAt, Gathered}
 
 module _ (X : ℕ → Bool) where
@@ -78,17 +80,12 @@ module _ (r : Round) (j : ℕ) (offer : ℕ → ℕ) where
     }
 
     module _ {who marks offers : List ℕ} {k p : ℕ} (s : Gathering who₀ marks₀ offers₀ who marks offers k p) where
-      -- there is room for the next offer
-      pub room : {n : ℕ} → p < n → (n ≤ length who₀) × (n ≤ length marks₀) × (n ≤ length offers₀)
-          → (k < length who) × (k < length marks) × (k < length offers)
-      room l (w, m, o) = (omega (arith, s .who-sized, s .most), omega (arith, s .marks-sized, s .most), omega (arith, s .offers-sized, s .most))
-
       -- the candidate at the place has an offer
-      pub one-gathered : {c m o : ℕ} → (k < length who) × (k < length marks) × (k < length offers)
+      one-gathered : {c m o : ℕ} → p < 512 → (512 ≤ length who₀) × (512 ≤ length marks₀) × (512 ≤ length offers₀)
           → c ≡ candidateOn r j p → m ≡ marksOf r (candidateOn r j p) → o ≡ offer (candidateOn r j p) → o ≢ 0
           → {who' marks' offers' : List ℕ} {k' : ℕ} → who' ≡ set who k c → marks' ≡ set marks k m → offers' ≡ set offers k o → k' ≡ k + 1
           → Gathering who₀ marks₀ offers₀ who' marks' offers' k' (p + 1)
-      one-gathered {c} {m} {o} (lw, lm, lo) ec em eo d ew ems eos ek =
+      one-gathered {c} {m} {o} l room ec em eo d ew ems eos ek =
           let X : ℕ → Bool = offersAt r j offer in
           let g = s .so-far in
           let x : X p ≡ true = ap not (ne-eqb (offer (candidateOn r j p)) 0 (λ z. d (eo ∙ z))) in
@@ -100,14 +97,14 @@ module _ (r : Round) (j : ℕ) (offer : ℕ → ℕ) where
             most = omega (arith, s .most);
             so-far = record {
               number = let e : p + 1 ≡ suc p = omega arith in rw e (omega (arith, g .number, bit-true (X p) x));
-              who-at = gathers-in X _ who k p c (g .number) lw x ec (g .who-at);
-              marks-at = gathers-in X _ marks k p m (g .number) lm x em (g .marks-at);
-              offers-at = gathers-in X _ offers k p o (g .number) lo x eo (g .offers-at);
+              who-at = gathers-in X _ who k p c (g .number) (omega (arith, room, s .who-sized, s .most)) x ec (g .who-at);
+              marks-at = gathers-in X _ marks k p m (g .number) (omega (arith, room, s .marks-sized, s .most)) x em (g .marks-at);
+              offers-at = gathers-in X _ offers k p o (g .number) (omega (arith, room, s .offers-sized, s .most)) x eo (g .offers-at);
             };
           }
 
       -- the candidate at the place has none
-      pub one-passed : {o : ℕ} → o ≡ offer (candidateOn r j p) → o ≡ 0
+      one-passed : {o : ℕ} → o ≡ offer (candidateOn r j p) → o ≡ 0
           → {who' marks' offers' : List ℕ} {k' : ℕ} → who' ≡ who → marks' ≡ marks → offers' ≡ offers → k' ≡ k
           → Gathering who₀ marks₀ offers₀ who' marks' offers' k' (p + 1)
       one-passed eo z ew ems eos ek =
@@ -128,14 +125,26 @@ module _ (r : Round) (j : ℕ) (offer : ℕ → ℕ) where
             };
           }
 
--- the marks of the candidate whose number was read
-pub marks-read : (file : List ℕ) (j p : ℕ) {number x : ℕ} → number ≡ meritAt (instituteAt (roundOf file) j) p → x ≡ candidateAt (roundOf file) (number - 1) .marks
-    → x ≡ marksOf (roundOf file) (candidateOn (roundOf file) j p)
-unfolding marksOf
-marks-read file j p e d = d ∙ ap (λ n. candidateAt (roundOf file) (n - 1) .marks) e
+-- at a place of the merit list of an institute of the file, with the number there and the candidate's offer as the code has read them
+module _ (file : List ℕ) (j : ℕ) (asked wanted : List ℕ) {who₀ marks₀ offers₀ who marks offers : List ℕ} {k p : ℕ}
+    (s : Gathering (roundOf file) j (offerTo (suc j) asked wanted) who₀ marks₀ offers₀ who marks offers k p) where
+  module _ {number offer : ℕ} (reads : number ≡ meritAt (instituteAt (roundOf file) j) p) (told : offer ≡ offerTo (j + 1) asked wanted (number - 1)) where
+    offer-read : offer ≡ offerTo (suc j) asked wanted (candidateOn (roundOf file) j p)
+    offer-read = told ∙ rw (add-one j, reads)
 
--- the offer of the candidate whose number was read
-pub offer-read : (r : Round) (j : ℕ) (asked wanted : List ℕ) (p : ℕ) {number x : ℕ} → number ≡ meritAt (instituteAt r j) p
-    → x ≡ offerTo (j + 1) asked wanted (number - 1)
-    → x ≡ offerTo (suc j) asked wanted (candidateOn r j p)
-offer-read r j asked wanted p e d = d ∙ rw (add-one j, e)
+    pub one-listed : {merits : List ℕ} → MeritKnown file merits j → p < length (instituteAt (roundOf file) j .merit)
+        → (512 ≤ length who₀) × (512 ≤ length marks₀) × (512 ≤ length offers₀)
+        → {m : ℕ} → m ≡ candidateAt (roundOf file) (number - 1) .marks → offer ≢ 0
+        → {who' marks' offers' : List ℕ} {k' : ℕ} → who' ≡ set who k (number - 1) → marks' ≡ set marks k m → offers' ≡ set offers k offer → k' ≡ k + 1
+        → Gathering (roundOf file) j (offerTo (suc j) asked wanted) who₀ marks₀ offers₀ who' marks' offers' k' (p + 1)
+    unfolding marksOf
+    one-listed known inside rooms em =
+        one-gathered (roundOf file) j _ s (omega (arith, merit-few known)) rooms (ap (λ x. x - 1) reads)
+        (em ∙ ap (λ n. candidateAt (roundOf file) (n - 1) .marks) reads) offer-read
+
+    pub one-left : offer ≡ 0 → {who' marks' offers' : List ℕ} {k' : ℕ} → who' ≡ who → marks' ≡ marks → offers' ≡ offers → k' ≡ k
+        → Gathering (roundOf file) j (offerTo (suc j) asked wanted) who₀ marks₀ offers₀ who' marks' offers' k' (p + 1)
+    one-left = one-passed (roundOf file) j _ s offer-read
+
+  pub all-listed : (n : ℕ) → p ≡ n → Gathered (roundOf file) j (offerTo (suc j) asked wanted) n who marks offers k
+  all-listed n e = rw e at (s .so-far)

@@ -2,28 +2,29 @@
 use Prim.Native.Nat.{ℕ, zero, suc, _+_, _*_, _-_, _^_, _≤_, _<_}
 use mathlib.Core.Path.{_≡_, refl, sym, _∙_, ap, subst}
 use mathlib.Core.Bool.{Bool, true, false, cond, not, _&&_, and-false}
-use mathlib.Core.Logic.{_≢_, _⊎_, inl, inr}
+use mathlib.Core.Logic.{_≢_, inl, inr}
 use mathlib.Core.List.{List}
 use native.Mathlib.Omega.{arith}
 use lib.Dec.{eqb, ltb}
 use lib.ListN.{length, getD, replicate, length-replicate}
 use lib.Seq.{ext-getD}
 use borrow.Author.Tests.{ltb-true, lt-ltb, eqb-true, ne-eqb}
-use Rattle.round.specs.declared.entry.Category.{Category}
 use Rattle.round.specs.declared.entry.Entry.{Entry}
-use Rattle.round.specs.Category.{codeOf}
-use Rattle.round.specs.Lists.{bit, tabulate, count, sum, sumOf}
+use Rattle.round.specs.Lists.{bit, count, sum, sumOf}
 use Rattle.round.specs.Round.{Round}
 use Rattle.round.specs.Sound.{Sound}
+use Rattle.round.specs.Reading.{roundOf}
+use Rattle.round.specs.Records.{headOf}
+use Rattle.round.specs.declared.head.Head.{Head as CodeHead}
 use Rattle.round.proofs.Words.{and-fst, and-snd, length-tabulate, tabulate-at}
 use Rattle.choice.proofs.Counting.{test, sameOr, and-true, clash, count-ext, sumOf-le}
 use Rattle.choice.proofs.Tabulate.{getD-zeros}
 use Rattle.offers.specs.Rows.{rowAt, entryOf, sameCategory}
-use Rattle.offers.specs.Offers.{OfferSet, placeOn, stepsOn, stepFor}
+use Rattle.offers.specs.Offers.{OfferSet, placeOn, stepFor}
 use Rattle.offers.specs.Process.{Seat, noSeat, isNone, candidateCount, instituteCount, madeTo, seatsAfter, mayOffer, entryTotal, tried, offersMade, seats}
 use Rattle.offers.specs.Ended.{Ended}
-use Rattle.offers.specs.Held.{HeldIn}
-use Rattle.offers.specs.Sweeps.{lastTo, mayTry, nextEntry, triedNext, askedNext, wantedNext, OffersMade, offerTo, offersBy, takesPart, ChosenAll, settled}
+use Rattle.offers.specs.Held.{AtHand, HeldIn}
+use Rattle.offers.specs.Sweeps.{mayTry, nextEntry, triedNext, askedNext, wantedNext, OffersMade, offerTo, offersBy, takesPart, ChosenAll, settled}
 use Rattle.offers.proofs.Rounds.Numbered.{rowsOf, row-length, same-refl}
 use Rattle.offers.proofs.Rounds.Places.{meritLength}
 use Rattle.offers.proofs.Rounds.Running.{Running}
@@ -34,6 +35,7 @@ use Rattle.offers.proofs.Rounds.Bounds.{list-length}
 use Rattle.offers.proofs.Rounds.Last.{last-steps, seat-last, seat-untried, may-unstepped}
 use Rattle.offers.proofs.Rounds.Sweeps.{Swept, none-swept, one-swept, one-passed, swept-sum, nobody-swept, made-still, last-new, last-old}
 use Rattle.offers.proofs.Rounds.AnyOrder.{ended-tried}
+use Rattle.offers.proofs.Sweeps.Known.{candidates-many, institutes-many, round-sound}
 use Rattle.offers.proofs.Sweeps.Lasts.{LastIn, offers-last, offer-some}
 
 -- what is tried, the tables, and how many offers were made
@@ -76,15 +78,32 @@ sum-sixteens : (k : ℕ) → sumOf k (λ i. 16) ≡ 16 * k
 sum-sixteens zero = refl
 sum-sixteens (suc k) = omega (arith, sum-sixteens k)
 
-module _ {types : ℕ} {r : Round} (sound : Sound types r) where
-  pub going-start : {state asked wanted steps : List ℕ} → state ≡ replicate (candidateCount r) 0 → asked ≡ replicate (candidateCount r) 0
-      → steps ≡ replicate (candidateCount r) 0 → length wanted ≡ candidateCount r → Going r state asked wanted steps 0
+-- when everybody who may has offered, the tables have one number for each candidate
+module _ {r : Round} {steps state asked wanted state' asked' wanted' fresh : List ℕ} {more : ℕ} (o : OffersMade r steps state asked wanted state' asked' wanted' fresh more) where
+  pub tried-many : length state' ≡ candidateCount r
+  tried-many = ap length (o .tried-now) ∙ length-tabulate 0 (candidateCount r) (triedNext r steps state)
+
+  pub asks-many : length asked' ≡ candidateCount r
+  asks-many = ap length (o .asked-now) ∙ length-tabulate 0 (candidateCount r) (askedNext r steps state asked)
+
+  pub wants-many : length wanted' ≡ candidateCount r
+  wants-many = ap length (o .wanted-now) ∙ length-tabulate 0 (candidateCount r) (wantedNext r steps state wanted)
+
+module _ {file : List ℕ} {h : CodeHead} {candidates merits : List ℕ} (hand : AtHand file h candidates merits) where
+  abbrev r : Round
+  r = roundOf file
+
+  abbrev sound : Sound (headOf file .types) (roundOf file)
+  sound = round-sound hand
+
+  pub going-start : {state asked wanted steps : List ℕ} → state ≡ replicate (h .candidates) 0 → asked ≡ replicate (h .candidates) 0
+      → steps ≡ replicate (h .candidates) 0 → length wanted ≡ h .candidates → Going (roundOf file) state asked wanted steps 0
   going-start {state} {asked} {wanted} {steps} et ea es many =
-      rw (et, ea, es)
+      rw (et, ea, es, ← candidates-many hand)
       record {
         running = start-running r;
         asked-many = length-replicate (candidateCount r) 0;
-        wanted-many = many;
+        wanted-many = many ∙ sym (candidates-many hand);
         steps-many = length-replicate (candidateCount r) 0;
         known = λ i hi. inl record { nothing = getD-zeros (candidateCount r) i; nobody = getD-zeros (candidateCount r) i };
         unasked = λ i hi z. getD-zeros (candidateCount r) i;
@@ -93,7 +112,7 @@ module _ {types : ℕ} {r : Round} (sound : Sound types r) where
       }
 
   -- the entries are few
-  pub entries-few : entryTotal r ≤ 8192
+  entries-few : entryTotal (roundOf file) ≤ 8192
   entries-few =
       omega (
         arith,
@@ -103,7 +122,7 @@ module _ {types : ℕ} {r : Round} (sound : Sound types r) where
         sumOf-le (candidateCount r) (λ p. rowsOf r p .len) (λ p. 16) (λ p m. omega (arith, row-length r p, sound .candidate p m .row-short)),
       )
 
-  module _ {state asked wanted steps : List ℕ} {made : ℕ} (g : Going r state asked wanted steps made) where
+  module _ {state asked wanted steps : List ℕ} {made : ℕ} (g : Going (roundOf file) state asked wanted steps made) where
     seat-is : (i : ℕ) → i < candidateCount r → getD (seatsAfter r state) i noSeat ≡ seatBy asked steps i
     seat-is i hi = go (g .known i hi)
       where
@@ -119,7 +138,7 @@ module _ {types : ℕ} {r : Round} (sound : Sound types r) where
     may-same i hi = ap (λ b. b && ltb (getD state i 0) (length (rowAt r i))) (sym (ap isNone (seat-is i hi) ∙ none-by asked steps i))
 
     -- everybody who may has offered
-    module _ {state' asked' wanted' fresh : List ℕ} {more : ℕ} (o : OffersMade r steps state asked wanted state' asked' wanted' fresh more) where
+    module _ {state' asked' wanted' fresh : List ℕ} {more : ℕ} (o : OffersMade (roundOf file) steps state asked wanted state' asked' wanted' fresh more) where
       sweep : (k : ℕ) → k ≤ candidateCount r → (now : List ℕ) × Swept r state k now
       sweep zero l = (state, none-swept (g .running))
       sweep (suc k) l =
@@ -132,7 +151,7 @@ module _ {types : ℕ} {r : Round} (sound : Sound types r) where
       swept =
           let (now, s) = sweep (candidateCount r) (omega arith) in
           let same : now ≡ state' =
-          ext-getD 0 now state' (s .run .each ∙ sym (ap length (o .tried-now) ∙ length-tabulate 0 (candidateCount r) (triedNext r steps state)))
+          ext-getD 0 now state' (s .run .each ∙ sym (tried-many o))
           (λ i l.
           let hi : i < candidateCount r = omega (arith, s .run .each) in
           s .below i hi
@@ -146,18 +165,14 @@ module _ {types : ℕ} {r : Round} (sound : Sound types r) where
       more-is = o .number ∙ count-ext (candidateCount r) _ _ may-same
 
       -- no more offers than entries
-      pub going-few : made + more ≤ entryTotal r
+      going-few : made + more ≤ entryTotal (roundOf file)
       going-few = omega (arith, g .counted, more-is, swept-sum sound (g .running) swept, state-most (swept .run))
 
-      -- the tables have one number for each candidate
-      pub tried-many : length state' ≡ candidateCount r
-      tried-many = swept .run .each
+      pub going-small : made + more < 2 ^ 64
+      going-small = omega (arith, going-few, entries-few)
 
-      pub asks-many : length asked' ≡ candidateCount r
-      asks-many = ap length (o .asked-now) ∙ length-tabulate 0 (candidateCount r) (askedNext r steps state asked)
-
-      pub wants-many : length wanted' ≡ candidateCount r
-      wants-many = ap length (o .wanted-now) ∙ length-tabulate 0 (candidateCount r) (wantedNext r steps state wanted)
+      pub going-less : more ≢ 0 → entryTotal (roundOf file) - (made + more) < entryTotal (roundOf file) - made
+      going-less d = omega (arith, going-few)
 
       module _ (i : ℕ) (hi : i < candidateCount r) where
         asked-is : getD asked' i 0 ≡ askedNext r steps state asked i
@@ -256,12 +271,12 @@ module _ {types : ℕ} {r : Round} (sound : Sound types r) where
           rw f (step-before i hi j hj e ∙ step-absent r j (madeTo r state j) i off ∙ sym (step-absent r j (madeTo r state' j) i off))))
 
       -- and each institute that got an offer has chosen
-      pub going-next : {m : ℕ} → instituteCount r ≡ m → {steps' : List ℕ} → ChosenAll r asked' wanted' fresh m steps steps'
-          → Going r state' asked' wanted' steps' (made + more)
-      going-next all {steps'} c' = let c : ChosenAll r asked' wanted' fresh (instituteCount r) steps steps' = rw all c' in record {
+      pub going-next : {steps' : List ℕ} → ChosenAll (roundOf file) asked' wanted' fresh (h .institutes) steps steps'
+          → Going (roundOf file) state' asked' wanted' steps' (made + more)
+      going-next {steps'} c' = let c : ChosenAll r asked' wanted' fresh (instituteCount r) steps steps' = rw (institutes-many hand) c' in record {
         running = swept .run;
-        asked-many = asks-many;
-        wanted-many = wants-many;
+        asked-many = asks-many o;
+        wanted-many = wants-many o;
         steps-many = c .many ∙ g .steps-many;
         known = known-next;
         unasked = λ i hi z.
@@ -274,21 +289,27 @@ module _ {types : ℕ} {r : Round} (sound : Sound types r) where
       }
 
       -- nobody offered: the end
-      pub going-done : more ≡ 0 → (made ≡ offersMade r) × HeldIn (seats r) (settled asked' steps) steps
-      unfolding offersMade seats
-      going-done z =
-          let ended : Ended r state = nobody-swept sound (g .running) swept (sym more-is ∙ z) in
-          let last : state ≡ tried r = ended-tried sound (g .running) ended in (
-            g .counted ∙ ap sum last,
-            record {
-              holders-many = length-tabulate 0 (length steps) _ ∙ g .steps-many ∙ sym (list-length r);
-              steps-many = g .steps-many ∙ sym (list-length r);
-              seat = λ i l.
-                  let hi : i < candidateCount r = omega (arith, list-length r) in
-                  ap (λ (s : List ℕ). getD (seatsAfter r s) i noSeat) (sym last)
-                  ∙ seat-is i hi
-                  ∙ ap (λ a. record { institute = cond (eqb (getD steps i 0) 0) 0 a; step = getD steps i 0 }) (sym (asked-old i hi (may-same i hi ∙ ended i hi)))
-                  ∙ ap (λ a. record { institute = a; step = getD steps i 0 })
-                  (sym (tabulate-at (length steps) (λ i. cond (eqb (getD steps i 0) 0) 0 (getD asked' i 0)) 0 i (omega (arith, g .steps-many))));
-            },
-          )
+      module _ (z : more ≡ 0) where
+        ended : Ended r state
+        ended = nobody-swept sound (g .running) swept (sym more-is ∙ z)
+
+        last : state ≡ tried r
+        last = ended-tried sound (g .running) ended
+
+        pub going-count : made ≡ offersMade (roundOf file)
+        unfolding offersMade
+        going-count = g .counted ∙ ap sum last
+
+        pub going-held : HeldIn (seats (roundOf file)) (settled asked' steps) steps
+        unfolding seats
+        going-held = record {
+          holders-many = length-tabulate 0 (length steps) _ ∙ g .steps-many ∙ sym (list-length r);
+          steps-many = g .steps-many ∙ sym (list-length r);
+          seat = λ i l.
+              let hi : i < candidateCount r = omega (arith, list-length r) in
+              ap (λ (s : List ℕ). getD (seatsAfter r s) i noSeat) (sym last)
+              ∙ seat-is i hi
+              ∙ ap (λ a. record { institute = cond (eqb (getD steps i 0) 0) 0 a; step = getD steps i 0 }) (sym (asked-old i hi (may-same i hi ∙ ended i hi)))
+              ∙ ap (λ a. record { institute = a; step = getD steps i 0 })
+              (sym (tabulate-at (length steps) (λ i. cond (eqb (getD steps i 0) 0) 0 (getD asked' i 0)) 0 i (omega (arith, g .steps-many))));
+        }

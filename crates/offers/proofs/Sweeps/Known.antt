@@ -1,20 +1,19 @@
 -- What is known of an accepted file whose head and starts of records are at hand.
-use Prim.Native.Nat.{ℕ, zero, suc, _-_, _≤_, _<_}
-use mathlib.Core.Path.{_≡_, refl, sym, _∙_, ap}
-use mathlib.Core.List.{List, [], _∷_, _++_}
+use Prim.Native.Nat.{ℕ, _-_, _≤_, _<_}
+use mathlib.Core.Path.{_≡_, sym, _∙_, ap}
+use mathlib.Core.List.{List}
 use native.Mathlib.Omega.{arith}
-use lib.ListN.{length, drop, replicate}
-use Rattle.round.specs.declared.entry.Entry.{Entry}
+use lib.ListN.{length, take, replicate}
+use lib.Seq.{length-take-le}
 use Rattle.round.specs.declared.head.Head.{Head as CodeHead}
 use Rattle.round.specs.Records.{Head, headOf}
 use Rattle.round.specs.Reading.{roundOf}
-use Rattle.round.specs.Places.{candidateAt, instituteAt, entryAt, meritAt}
+use Rattle.round.specs.Places.{instituteAt, meritAt}
 use Rattle.round.specs.Sound.{Sound, SoundInstitute}
 use Rattle.round.specs.Outcome.{CandidateStarts}
-use Rattle.round.specs.Access.{CandidateKnown, MeritKnown, InstituteKnown}
-use Rattle.round.proofs.Words.{append-none}
+use Rattle.round.specs.Access.{CandidateKnown, MeritKnown}
 use Rattle.round.proofs.Sound.{length-candidates, length-institutes, sound}
-use Rattle.offers.specs.Offers.{candidateOn}
+use Rattle.choice.proofs.Steps.{take-replicate, sized}
 use Rattle.offers.specs.Process.{candidateCount, instituteCount}
 use Rattle.offers.specs.Held.{AtHand}
 use Rattle.offers.proofs.Rounds.Bounds.{merit-short}
@@ -38,11 +37,8 @@ module _ {file merits : List ℕ} {j : ℕ} (known : MeritKnown file merits j) w
     pub number-least : 1 ≤ number
     number-least = omega (arith, institute-sound .merit-from p inside)
 
-    pub number-most : number - 1 < headOf file .candidates
+    number-most : number - 1 < headOf file .candidates
     number-most = omega (arith, institute-sound .merit-from p inside, institute-sound .merit-to p inside, length-candidates file)
-
-    pub number-on : number - 1 ≡ candidateOn (roundOf file) j p
-    number-on = ap (λ x. x - 1) reads
 
     pub candidate-known : {candidates : List ℕ} → CandidateStarts file candidates → CandidateKnown file candidates (number - 1)
     candidate-known starts = record { accepted = known .accepted; table = starts; below = number-most }
@@ -64,50 +60,29 @@ module _ {file : List ℕ} {h : CodeHead} {candidates merits : List ℕ} (at : A
   pub round-sound : Sound (headOf file .types) (roundOf file)
   round-sound = sound file (at .passing)
 
-  pub candidates-few : h .candidates ≤ 512
+  candidates-few : h .candidates ≤ 512
   candidates-few = omega (arith, candidates-many, round-sound .candidates-most)
 
   pub institutes-few : h .institutes ≤ 32
   institutes-few = omega (arith, institutes-many, round-sound .institutes-most)
 
-  pub knows-candidate : {i : ℕ} → i < h .candidates → CandidateKnown file candidates i
-  knows-candidate l = record { accepted = at .passing; table = at .candidate-starts; below = omega (arith, candidates-are) }
-
   pub knows-merit : {j : ℕ} → j < h .institutes → MeritKnown file merits j
   knows-merit l = record { accepted = at .passing; table = at .merit-starts; below = omega (arith, institutes-are) }
 
-  pub knows-institute : {j : ℕ} → j < h .institutes → InstituteKnown file h j
-  knows-institute l = record { accepted = at .passing; head = at .head; below = l }
+  -- a table of zeros has a place for each candidate
+  module _ {table : List ℕ} (e : table ≡ replicate 512 0) where
+    pub places : h .candidates ≤ length table
+    places = omega (arith, candidates-few, sized 512 e)
 
-  -- the entry of candidate i that the code has read
-  module _ {i : ℕ} (inside : i < h .candidates) where
-    pub row-few : length (candidateAt (roundOf file) i .row) ≤ 16
-    row-few = round-sound .candidate i (omega (arith, candidates-many)) .row-short
+    pub places-many : length (take (h .candidates) table) ≡ h .candidates
+    places-many = length-take-le (h .candidates) table places
 
-    module _ {k : ℕ} (short : k < length (candidateAt (roundOf file) i .row)) {m : ℕ} (same : m ≡ k) {entry : Entry}
-        (reads : entry ≡ entryAt (candidateAt (roundOf file) i) m) where
-      reads-institute : entry .institute ≡ entryAt (candidateAt (roundOf file) i) k .institute
-      reads-institute = ap (λ (x : Entry). x .institute) reads ∙ ap (λ x. entryAt (candidateAt (roundOf file) i) x .institute) same
+    pub places-zero : take (h .candidates) table ≡ replicate (h .candidates) 0
+    places-zero = ap (λ (t : List ℕ). take (h .candidates) t) e ∙ take-replicate (h .candidates) 512 candidates-few
 
-      pub entry-least : 1 ≤ entry .institute
-      entry-least = omega (arith, reads-institute, round-sound .candidate i (omega (arith, candidates-many)) .entry-from k short)
+-- as many as the round's candidates, as the head has them
+pub head-many : (file : List ℕ) (n : ℕ) → n ≡ candidateCount (roundOf file) → n ≡ headOf file .candidates
+head-many file n e = e ∙ length-candidates file
 
-      pub entry-inside : entry .institute - 1 < h .institutes
-      entry-inside =
-          omega (
-            arith,
-            entry-least,
-            reads-institute,
-            institutes-many,
-            round-sound .candidate i (omega (arith, candidates-many)) .entry-to k short,
-          )
-
-drop-all : (n : ℕ) (l : List ℕ) → length l ≡ n → drop n l ≡ []
-drop-all zero [] e = refl
-drop-all zero (x ∷ l) e = absurd (omega arith)
-drop-all (suc n) [] e = refl
-drop-all (suc n) (x ∷ l) e = drop-all n l (omega arith)
-
--- a table that was cleared as far as it goes
-pub cleared : (n : ℕ) (before : List ℕ) {after : List ℕ} → length before ≡ n → after ≡ replicate n 0 ++ drop n before → after ≡ replicate n 0
-cleared n before many e = e ∙ ap (λ (t : List ℕ). replicate n 0 ++ t) (drop-all n before many) ∙ append-none (replicate n 0)
+pub zeros-room : (n : ℕ) (l : List ℕ) → l ≡ replicate n 0 → n ≤ length l
+zeros-room n l e = omega (arith, sized n e)

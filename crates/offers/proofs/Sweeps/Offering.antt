@@ -1,7 +1,7 @@
 -- Offers of one candidate after the other: what the tables hold on the way and after the last.
-use Prim.Native.Nat.{ℕ, suc, _+_, _-_, _^_, _≤_, _<_}
+use Prim.Native.Nat.{ℕ, _+_, _-_, _^_, _≤_, _<_}
 use mathlib.Core.Path.{_≡_, refl, sym, _∙_, ap}
-use mathlib.Core.Bool.{Bool, true, false, cond, _&&_}
+use mathlib.Core.Bool.{Bool, true, false, _&&_}
 use mathlib.Core.Logic.{_≢_}
 use mathlib.Core.List.{List}
 use native.Mathlib.Omega.{arith}
@@ -69,15 +69,24 @@ module _ {file starts : List ℕ} {i : ℕ} (known : CandidateKnown file starts 
     entry-is : entry ≡ nextEntry (roundOf file) tried i
     entry-is = reads ∙ ap (λ k. entryAt (candidateAt (roundOf file) i) k) at
 
-    pub entry-few : (1 ≤ entry .institute) × (entry .institute ≤ 32)
+    entry-few : (1 ≤ entry .institute) × (entry .institute ≤ 32)
     entry-few = rw entry-is next-few
 
-    pub offer-made : {asked wanted fresh : List ℕ} {number categories : ℕ} → length fresh ≡ 32 → number ≡ entry .institute → categories ≡ 2 ^ codeOf (entry .category)
+    pub entry-least : 1 ≤ entry .institute
+    entry-least = entry-few .0
+
+    pub entry-small : entry .institute < 256
+    entry-small = omega (arith, entry-few)
+
+    pub entry-inside : (fresh : List ℕ) → length fresh ≡ 32 → entry .institute - 1 < length fresh
+    entry-inside fresh e = omega (arith, entry-few)
+
+    pub offer-made : {asked wanted fresh : List ℕ} {categories : ℕ} → length fresh ≡ 32 → categories ≡ 2 ^ codeOf (entry .category)
         → OfferMade (roundOf file) i tried asked wanted fresh
-        (set tried i (getD tried i 0 + 1)) (set asked i number) (set wanted i categories) (set fresh (entry .institute - 1) 1)
-    offer-made {asked} {wanted} {fresh} many en ec = record {
+        (set tried i (getD tried i 0 + 1)) (set asked i (entry .institute)) (set wanted i categories) (set fresh (entry .institute - 1) 1)
+    offer-made {asked} {wanted} {fresh} many ec = record {
       tried-one = ap (λ x. set tried i x) (add-one (getD tried i 0));
-      asked-one = ap (λ x. set asked i x) (en ∙ ap (λ (e : Entry). e .institute) entry-is);
+      asked-one = ap (λ x. set asked i x) (ap (λ (e : Entry). e .institute) entry-is);
       wanted-one = ap (λ x. set wanted i x) (ec ∙ ap (λ (e : Entry). 2 ^ codeOf (e .category)) entry-is);
       fresh-many = length-set fresh _ 1;
       fresh-new = rw (← entry-is, getD-set-same fresh (entry .institute - 1) 1 0 (omega (arith, entry-few, many))) (λ z. omega arith);
@@ -114,9 +123,11 @@ module _ (r : Round) (steps tried₀ asked₀ wanted₀ : List ℕ) where
 
     module _ {may : Bool} (told : may ≡ mayTry r tried steps k) where
       -- candidate k may not offer
-      pub one-passed : may ≡ false → {made' : ℕ} → made' ≡ made → Offering tried asked wanted fresh (k + 1) made'
-      one-passed not-may em =
+      pub one-passed : may ≡ false → {tried' asked' wanted' fresh' : List ℕ} {made' : ℕ} → tried' ≡ tried → asked' ≡ asked → wanted' ≡ wanted → fresh' ≡ fresh
+          → made' ≡ made → Offering tried' asked' wanted' fresh' (k + 1) made'
+      one-passed not-may et ea ew ef em =
           let f : mayTry r tried₀ steps k ≡ false = sym may-still ∙ sym told ∙ not-may in
+          rw (et, ea, ew, ef)
           record {
             tried-to = keep tried₀ tried _ k (s .tried-to) (rw f);
             asked-to = keep asked₀ asked _ k (s .asked-to) (rw f);
@@ -132,12 +143,13 @@ module _ (r : Round) (steps tried₀ asked₀ wanted₀ : List ℕ) where
 
       -- candidate k offers
       pub one-offered : may ≡ true → k < length tried₀ → k < length asked₀ → k < length wanted₀
-          → {tried' asked' wanted' fresh' : List ℕ} {made' : ℕ} → OfferMade r k tried asked wanted fresh tried' asked' wanted' fresh' → made' ≡ made + 1
+          → {tried₁ asked₁ wanted₁ fresh₁ tried' asked' wanted' fresh' : List ℕ} {made' : ℕ} → OfferMade r k tried asked wanted fresh tried₁ asked₁ wanted₁ fresh₁
+          → tried' ≡ tried₁ → asked' ≡ asked₁ → wanted' ≡ wanted₁ → fresh' ≡ fresh₁ → made' ≡ made + 1
           → Offering tried' asked' wanted' fresh' (k + 1) made'
-      one-offered yes₀ lt la lw o em =
+      one-offered yes₀ lt la lw o et ea ew ef em =
           let t : mayTry r tried₀ steps k ≡ true = sym may-still ∙ sym told ∙ yes₀ in
           let had : getD tried k 0 ≡ getD tried₀ k 0 = s .tried-to .above k (omega arith) in
-          rw (o .tried-one, o .asked-one, o .wanted-one, had)
+          rw (et ∙ o .tried-one, ea ∙ o .asked-one, ew ∙ o .wanted-one, ef, had)
           record {
             tried-to = write tried₀ tried _ k _ lt (s .tried-to) (rw t);
             asked-to = write asked₀ asked _ k _ la (s .asked-to) (rw t);
@@ -151,13 +163,14 @@ module _ (r : Round) (steps tried₀ asked₀ wanted₀ : List ℕ) where
             ];
           }
 
-    pub all-offered : length tried₀ ≡ candidateCount r → length asked₀ ≡ candidateCount r → length wanted₀ ≡ candidateCount r → k ≡ candidateCount r
+    -- everybody of so many candidates has had a turn
+    pub all-offered : {n : ℕ} → candidateCount r ≡ n → length tried₀ ≡ n → length asked₀ ≡ n → length wanted₀ ≡ n → k ≡ n
         → OffersMade r steps tried₀ asked₀ wanted₀ tried asked wanted fresh made
-    all-offered et ea ew ek = record {
-      tried-now = tabulated tried₀ tried _ k (s .tried-to) (omega arith) ∙ ap (λ n. tabulate n (triedNext r steps tried₀)) et;
-      asked-now = tabulated asked₀ asked _ k (s .asked-to) (omega arith) ∙ ap (λ n. tabulate n (askedNext r steps tried₀ asked₀)) ea;
-      wanted-now = tabulated wanted₀ wanted _ k (s .wanted-to) (omega arith) ∙ ap (λ n. tabulate n (wantedNext r steps tried₀ wanted₀)) ew;
-      number = rw ek at (s .number);
+    all-offered en et ea ew ek = record {
+      tried-now = tabulated tried₀ tried _ k (s .tried-to) (omega arith) ∙ ap (λ n. tabulate n (triedNext r steps tried₀)) (et ∙ sym en);
+      asked-now = tabulated asked₀ asked _ k (s .asked-to) (omega arith) ∙ ap (λ n. tabulate n (askedNext r steps tried₀ asked₀)) (ea ∙ sym en);
+      wanted-now = tabulated wanted₀ wanted _ k (s .wanted-to) (omega arith) ∙ ap (λ n. tabulate n (wantedNext r steps tried₀ wanted₀)) (ew ∙ sym en);
+      number = rw (ek ∙ sym en) at (s .number);
       fresh-many = s .fresh-many;
       fresh-new = λ i l. s .fresh-new i (omega arith);
     }

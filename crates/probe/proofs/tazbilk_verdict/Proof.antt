@@ -10,8 +10,8 @@ use Rattle.probe.proofs.tazbilk_verdict.Tie as tie
 candidate-table-requires : tie.Need-candidate-table-requires
 candidate-table-requires c κs = search needs
 
-merit-table-requires : tie.Need-merit-table-requires
-merit-table-requires c κs = search needs
+institute-table-requires : tie.Need-institute-table-requires
+institute-table-requires c κs = search needs
 
 slice-aggregate-read-round : tie.Need-slice-aggregate-read-round
 slice-aggregate-read-round c = search needs
@@ -55,7 +55,7 @@ tazbilk-verdict-spec =
     tie.close
     (tie.spec
     candidate-table-requires
-    merit-table-requires
+    institute-table-requires
     slice-aggregate-read-round
     slice-aggregate-read-round-2
     read-round-requires

@@ -5,11 +5,11 @@ use Rattle.allotment.proofs.Calling.{handed-refused, at-hand}
 use Rattle.allotment.proofs.call.allot.Statement.{statement}
 use Rattle.allotment.proofs.call.allot.Tie as tie
 
-no-rows-requires : tie.Need-no-rows-requires
-no-rows-requires c κs = search needs
+candidate-table-requires : tie.Need-candidate-table-requires
+candidate-table-requires c κs = search needs
 
-no-lists-requires : tie.Need-no-lists-requires
-no-lists-requires c κs = search needs
+institute-table-requires : tie.Need-institute-table-requires
+institute-table-requires c κs = search needs
 
 slice-aggregate-read-round : tie.Need-slice-aggregate-read-round
 slice-aggregate-read-round c = search needs
@@ -54,8 +54,8 @@ pub allot-spec : {M : Type 1} → statement M
 allot-spec =
     tie.close
     (tie.spec
-    no-rows-requires
-    no-lists-requires
+    candidate-table-requires
+    institute-table-requires
     slice-aggregate-read-round
     slice-aggregate-read-round-2
     read-round-requires

@@ -1,4 +1,4 @@
--- `choice::placing::place` meets its contract: the loop over types keeps `Tried`, the loop over holders `Asked`, and every way out of both is `Ended`.
+-- `choice::placing::place` meets its contract: the loop over types keeps `Tried`, the loop over holders `Asked`, and every way out of both is `SearchEnded`.
 -- The measure is the number of types that are not visited. Assumes nothing.
 use Prim.Native.Nat.{ℕ, suc, _+_, _<_, _≤_, _-_}
 use mathlib.Core.Path.{_≡_, refl, sym, ap, subst, _∙_}
@@ -12,7 +12,7 @@ use native.Mathlib.Omega.{arith}
 use Rattle.choice.specs.Use.{holds, Placing}
 use Rattle.choice.specs.declared.placing.Found.{Found}
 use Rattle.choice.specs.declared.placing.Found.the-variants.{At, Nothing}
-use Rattle.choice.proofs.Visits.{unvisited, Tried, Asked, Ended, ended-by, Cleared, tried-test, skip, done, ask, pass, fail, clear, fewer, cleared, finish, settle}
+use Rattle.choice.proofs.Visits.{unvisited, Tried, Asked, SearchEnded, ended-by, Cleared, tried-test, skip, done, ask, pass, fail, clear, fewer, cleared, finish, settle}
 use borrow.Fn.Kinds.{In}
 use borrow.Fn.PlainCycle.{Measures, is, falls, and}
 use Rattle.choice.proofs.placing.place.Reads as place
@@ -96,7 +96,7 @@ to-try t o =
 
 -- how the search ends, at every way out of the loops, as a search that starts from the places and the visited types of the entry
 ended : (t : ℕ) (c : AtEnd t) → let a = start t (c .before) .args in let out = c .loop-test in
-    Ended (a .reserved .now) (a .marks .now) (a .visited .now) (out .visited) (a .placed .now) (out .placed) (a .c) (out .found)
+    SearchEnded (a .reserved .now) (a .marks .now) (a .visited .now) (out .visited) (a .placed .now) (out .placed) (a .c) (out .found)
     × (length (out .placed) ≡ length (a .placed .now)) × (length (out .visited) ≡ length (a .visited .now))
 ended t c =
     let k = c .before in
@@ -137,10 +137,10 @@ ended t c =
 
 -- .. with the type that was found, or nothing
 as-ended : (t : ℕ) (c : AtEnd t) (f : Found) → c .loop-test .found ≡ f → let a = start t (c .before) .args in
-    Ended (a .reserved .now) (a .marks .now) (a .visited .now) (c .loop-test .visited) (a .placed .now) (c .loop-test .placed) (a .c) f
+    SearchEnded (a .reserved .now) (a .marks .now) (a .visited .now) (c .loop-test .visited) (a .placed .now) (c .loop-test .placed) (a .c) f
 as-ended t c f e =
     let a = start t (c .before) .args in
-    subst (Ended (a .reserved .now) (a .marks .now) (a .visited .now) (c .loop-test .visited) (a .placed .now) (c .loop-test .placed) (a .c)) e (ended t c .0)
+    subst (SearchEnded (a .reserved .now) (a .marks .now) (a .visited .now) (c .loop-test .visited) (a .placed .now) (c .loop-test .placed) (a .c)) e (ended t c .0)
 
 abbrev AtKnown : ℕ → Type 0
 AtKnown t = place-lts.After-known-told (told t) (place-at t) place.Post place-Inv-loop2 place-μ-loop2 place-Inv-loop place-μ-loop place-Inv-search place-μ-search

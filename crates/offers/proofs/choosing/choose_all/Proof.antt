@@ -1,13 +1,12 @@
 -- `offers::choosing::choose_all` meets its contract: the institutes passed have chosen if they got an offer. Assumes nothing.
 use Prim.Native.Nat.{_-_, _≤_}
-use mathlib.Core.Path.{_≡_, refl, _∙_}
+use mathlib.Core.Path.{_≡_, refl}
 use mathlib.Core.Logic.{⊎-elim}
 use native.Mathlib.Omega.{arith}
-use lib.ListN.{length}
 use borrow.Author.Needs.{needs}
 use Rattle.round.specs.Reading.{roundOf}
 use Rattle.offers.proofs.Sweeps.Known.{institutes-few}
-use Rattle.offers.proofs.Sweeps.Choices.{Choosing, none-chosen, one-chosen, one-spared}
+use Rattle.offers.proofs.Sweeps.Choices.{Choosing, none-chosen, one-chosen, one-spared, all-chosen}
 use Rattle.offers.proofs.choosing.choose_all.Statement.{statement}
 use Rattle.offers.proofs.choosing.choose_all.Tie as tie
 
@@ -19,25 +18,16 @@ abbrev μ-loop : tie.MeasureT-loop
 μ-loop file h candidates merits asked wanted fresh₀ steps₀ j₀ j-end fresh steps j = h .institutes - j
 
 loop-holds : tie.Need-loop-holds Inv-loop μ-loop
-loop-holds c = (omega arith, refl, none-chosen _ _ _ _ _)
+loop-holds c = (omega arith, refl, search none-chosen)
 
 slice-read-if1 : tie.Need-slice-read-if1 Inv-loop μ-loop
-slice-read-if1 c =
-    let at = c .before .before in
-    let pre = at .before .before .before .before .before .before .before .before .pre in
-    omega (arith, institutes-few (pre .0), at .loop .inv .2 .fresh-many)
+slice-read-if1 c = omega (arith, institutes-few)
 
 slice-write-fresh : tie.Need-slice-write-fresh Inv-loop μ-loop
-slice-write-fresh c =
-    let at = c .before .before .before in
-    let pre = at .before .before .before .before .before .before .before .before .pre in
-    omega (arith, institutes-few (pre .0), at .loop .inv .2 .fresh-many)
+slice-write-fresh c = omega (arith, institutes-few)
 
 choose-anew-requires : tie.Need-choose-anew-requires Inv-loop μ-loop
-choose-anew-requires c κs =
-    let at = c .before .before .before .before in
-    let pre = at .before .before .before .before .before .before .before .before .pre in
-    (pre .0, (c .before .before .before .loop-test .taken, (pre .1 .0, pre .1 .1, at .loop .inv .2 .chosen .many ∙ pre .1 .2)))
+choose-anew-requires c κs = (search needs, (search needs, (search needs, search needs, search needs)))
 
 add-j : tie.Need-add-j Inv-loop μ-loop
 add-j c = search needs
@@ -46,26 +36,16 @@ loop-less : tie.Need-loop-less Inv-loop μ-loop
 loop-less c = search needs
 
 loop-again : tie.Need-loop-again Inv-loop μ-loop
-loop-again c =
-    let at = c .before .before .before in
-    let inv = at .loop .inv .2 in (
-      omega (arith, c .before .before .loop-test .taken),
-      refl,
-      ⊎-elim (λ w. one-chosen _ _ _ _ _ inv (w .0 .taken) (w .5) (rw (w .6) (w .2 .ensures))) (λ w. rw (w .1, w .2) (one-spared _ _ _ _ _ inv (w .0 .left))) (c .if1 .came),
-    )
+loop-again c = (omega arith, refl, ⊎-elim (λ w. search one-chosen) (λ w. search one-spared) (c .if1 .came))
 
 same-length : tie.Need-same-length Inv-loop μ-loop
-same-length c = c .before .loop .inv .2 .fresh-many
+same-length c = search needs
 
 same-length-2 : tie.Need-same-length-2 Inv-loop μ-loop
-same-length-2 c = c .before .loop .inv .2 .chosen .many
+same-length-2 c = search needs
 
 returns : tie.Need-returns Inv-loop μ-loop
-returns c =
-    let at = c .before in
-    let pre = at .before .before .before .before .before .before .before .before .pre in
-    let end : at .loop .j ≡ at .before .before .before .before .before .before .before .before .args .h .institutes = omega arith in
-    (rw end at (at .loop .inv .2 .chosen), at .loop .inv .2 .fresh-many ∙ pre .1 .3)
+returns c = (all-chosen _ _ _ _ _ (c .before .loop .inv .2) _ (omega arith), search needs)
 
 pub choose-all-spec : {M : Type 1} → statement M
 choose-all-spec =

@@ -6,36 +6,29 @@ use native.Mathlib.Omega.{arith}
 use lib.ListN.{length, take, drop}
 use lib.Seq.{length-take-le, length-front}
 use denote.Ref.{now}
-use Rattle.round.specs.Reading.{roundOf}
-use Rattle.round.specs.Access.{MeritKnown}
-use Rattle.choice.proofs.Steps.{front-back, sized}
+use Rattle.choice.proofs.Steps.{front-back}
 use Rattle.offers.specs.Sweeps.{Apart}
-use Rattle.offers.proofs.Sweeps.Known.{candidates-are, candidates-many, knows-merit, institute-sound, merit-few}
-use Rattle.offers.proofs.Sweeps.Choosing.{listed-most, listed-apart, chosen-anew}
+use Rattle.offers.proofs.Sweeps.Known.{zeros-room, candidates-are, knows-merit}
+use Rattle.offers.proofs.Sweeps.Choosing.{listed-few, front-fits, front-apart, chosen-anew}
 use borrow.Author.Needs.{needs}
 use Rattle.offers.proofs.choosing.choose_anew.Statement.{statement}
 use Rattle.offers.proofs.choosing.choose_anew.Tie as tie
 
--- where the function begins, and where its tables are made
-abbrev start : tie.After-offers → tie.Start
-start c = c .before .before .before .before .before .before .before .before .before .before .before .before .before .before
+-- where the function begins, where the offers are listed, where the choice is prepared, and where it is made
+abbrev start : tie.After-gather → tie.Start
+start c = c .before .before .before .before .before .before .before .before .before .before .before .before .before .before .before
 
-abbrev made : tie.After-offers → tie.After-zeros3
-made c = c .before .before .before .before
-
--- the tables for the listed have room
-rooms : (c : tie.After-zeros2) → (length (c .before .before .nobody .result) ≡ 512) × (length (c .before .zeros .result) ≡ 512) × (length (c .zeros2 .result) ≡ 512)
-rooms c = (sized 512 (c .before .before .nobody .ensures), sized 512 (c .before .zeros .ensures), sized 512 (c .zeros2 .ensures))
-
--- where the offers are listed, before the choice
 abbrev listed : tie.After-rules3 → tie.After-gather
 listed c = c .before .before .before .before .before .before .before .before
 
+abbrev ready : tie.After-chosen → tie.After-rules3
+ready c = c .before .before .before
+
+abbrev chose : tie.After-chosen3 → tie.After-choose
+chose c = c .before .before .before
+
 -- the k listed stand at the front of each table
 module _ (c : tie.After-gather) where
-  abbrev begun : tie.Start
-  begun = start (c .before)
-
   abbrev k : ℕ
   k = c .gather .result
 
@@ -49,35 +42,30 @@ module _ (c : tie.After-gather) where
   offers = c .gather .last .1 .1 .1 .1 .1 .1 .1 .1 .0
 
   abbrev chosen : List ℕ
-  chosen = made (c .before) .zeros3 .result
-
-  known : MeritKnown (now (begun .args .file)) (now (begun .args .merits)) (begun .args .j)
-  known = knows-merit (begun .pre .0) (begun .pre .1 .0)
+  chosen = let made = c .before .before .before .before .before in made .zeros3 .result
 
   few : k ≤ 512
-  few = omega (arith, merit-few known, listed-most (roundOf (now (begun .args .file))) (begun .args .j) (institute-sound known) _ (c .gather .ensures))
+  few = search listed-few
 
   who-fits : k ≤ length who
-  who-fits = omega (arith, few, c .gather .kept .1 .1 .1 .1 .1 .1 .0, rooms (made (c .before) .before) .0)
+  who-fits = search front-fits
 
   marks-fits : k ≤ length marks
-  marks-fits = omega (arith, few, c .gather .kept .1 .1 .1 .1 .1 .1 .1 .0, rooms (made (c .before) .before) .1)
+  marks-fits = search front-fits
 
   offers-fits : k ≤ length offers
-  offers-fits = omega (arith, few, c .gather .kept .1 .1 .1 .1 .1 .1 .1 .1 .0, rooms (made (c .before) .before) .2)
+  offers-fits = search front-fits
 
   chosen-fits : k ≤ length chosen
-  chosen-fits = omega (arith, few, sized 512 (made (c .before) .zeros3 .ensures))
+  chosen-fits = search front-fits
 
-  apart : Apart (take k who) (length (now (begun .args .steps))) k
-  apart =
-      listed-apart (roundOf (now (begun .args .file))) (begun .args .j) (institute-sound known) _ (c .gather .ensures)
-      (candidates-many (begun .pre .0) ∙ sym (begun .pre .1 .1 .2))
+  apart : Apart (take k who) (length (now (start c .args .steps))) k
+  apart = search front-apart
 
 -- the steps come back as they were chosen
 module _ (c : tie.After-choose) where
   abbrev g : tie.After-gather
-  g = let at = c .before .before .before .before in listed at
+  g = listed (ready (c .before))
 
   abbrev found : List ℕ
   found = c .choose .last .1 .1 .1 .1 .1 .0
@@ -100,8 +88,8 @@ zeros-requires-2 c κs = search needs
 zeros-requires-3 : tie.Need-zeros-requires-3
 zeros-requires-3 c κs = search needs
 
-no-rules-requires : tie.Need-no-rules-requires
-no-rules-requires c κs = search needs
+rule-table-requires : tie.Need-rule-table-requires
+rule-table-requires c κs = search needs
 
 slice-aggregate-gather : tie.Need-slice-aggregate-gather
 slice-aggregate-gather c = search needs
@@ -113,12 +101,7 @@ slice-aggregate-gather-3 : tie.Need-slice-aggregate-gather-3
 slice-aggregate-gather-3 c = search needs
 
 gather-requires : tie.Need-gather-requires
-gather-requires c κs =
-    let pre = start c .pre in
-    let same = candidates-are (pre .0) in
-    let (asked, wanted, steps) = pre .1 .1 in
-    let (w, m, o) = rooms (made c .before) in
-    (knows-merit (pre .0) (pre .1 .0), (pre .0 .candidate-starts, ((asked ∙ same, wanted ∙ same), (omega arith, omega arith, omega arith))))
+gather-requires c κs = (search knows-merit, (search needs, ((omega (arith, candidates-are), omega (arith, candidates-are)), (search zeros-room, search zeros-room, search zeros-room))))
 
 institute-body-requires : tie.Need-institute-body-requires
 institute-body-requires c κs = search needs
@@ -148,14 +131,13 @@ array-borrow-prefix-chosen : tie.Need-array-borrow-prefix-chosen
 array-borrow-prefix-chosen c = chosen-fits (listed (c .before .before))
 
 slice-aggregate-choose-4 : tie.Need-slice-aggregate-choose-4
-slice-aggregate-choose-4 c = let at = c .before .before .before in sym (length-take-le _ _ (chosen-fits (listed at)))
+slice-aggregate-choose-4 c = sym (length-take-le _ _ (chosen-fits (listed (ready c))))
 
 choose-requires : tie.Need-choose-requires
 choose-requires c κs =
-    let at = c .before .before .before in
-    let g = listed at in
+    let g = listed (ready c) in
     let each = length-take-le (k g) (marks g) (marks-fits g) in (
-      at .before .before .rules-of .ensures .table-of,
+      search needs,
       record {
         few = omega (arith, each, few g);
         offers-each = length-take-le _ _ (offers-fits g) ∙ sym each;
@@ -175,11 +157,11 @@ array-share-prefix-chosen c =
     omega (arith, chosen-fits (g at), length-front (chosen (g at)) (found at) (k (g at)) (at .choose .kept .1 .1 .1 .1 .1 .0))
 
 slice-aggregate-scatter-2 : tie.Need-slice-aggregate-scatter-2
-slice-aggregate-scatter-2 c = let at = c .before .before .before in sym (back-long at)
+slice-aggregate-scatter-2 c = sym (back-long (chose c))
 
 scatter-requires : tie.Need-scatter-requires
 scatter-requires c κs =
-    let at = c .before .before .before .before in
+    let at = chose (c .before) in
     let each = length-take-le _ _ (who-fits (g at)) in
     (back-long at ∙ sym each, (rw each (apart (g at))))
 
@@ -188,13 +170,12 @@ same-length c = search needs
 
 returns : tie.Need-returns
 returns c =
-    let at = c .before .before .before .before .before .before .before in
-    let ready = at .before .before .before .before in
-    let body = ready .before .before .before .before in
-    let a = begun (g at) .args in
-    chosen-anew (roundOf (now (a .file))) (a .j) (institute-sound (known (g at))) (now (a .asked)) (now (a .wanted)) (g at .gather .ensures)
-    (who-fits (g at)) (marks-fits (g at)) (found-back at ∙ at .choose .ensures)
-    (ready .before .before .rules-of .ensures .rules-of ∙ body .institute-body .ensures .steps-of) (c .before .before .scatter .ensures)
+    let done = c .before .before in
+    let at = chose (done .before .before) in
+    let rules = ready (at .before) .before .before in
+    let pre = start (g at) .pre in
+    chosen-anew (pre .0) (pre .1 .0) _ _ (g at .gather .ensures) (who-fits (g at)) (marks-fits (g at)) (found-back at ∙ at .choose .ensures)
+    (rules .rules-of .ensures .rules-of ∙ rules .before .before .institute-body .ensures .steps-of) (done .scatter .ensures)
 
 pub choose-anew-spec : {M : Type 1} → statement M
 choose-anew-spec =
@@ -204,7 +185,7 @@ choose-anew-spec =
     zeros-requires
     zeros-requires-2
     zeros-requires-3
-    no-rules-requires
+    rule-table-requires
     slice-aggregate-gather
     slice-aggregate-gather-2
     slice-aggregate-gather-3

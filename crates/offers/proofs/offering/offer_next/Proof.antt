@@ -1,7 +1,5 @@
 -- `offers::offering::offer_next` meets its contract: the entry that is read is offered. Assumes nothing.
-use native.Mathlib.Omega.{arith}
-use denote.Ref.{now}
-use Rattle.offers.proofs.Sweeps.Offering.{tried-few, entry-few, offer-made}
+use Rattle.offers.proofs.Sweeps.Offering.{tried-few, entry-least, entry-small, entry-inside, offer-made}
 use borrow.Author.Needs.{needs}
 use Rattle.offers.proofs.offering.offer_next.Statement.{statement}
 use Rattle.offers.proofs.offering.offer_next.Tie as tie
@@ -19,18 +17,13 @@ slice-read-tried : tie.Need-slice-read-tried
 slice-read-tried c = search needs
 
 add-tried : tie.Need-add-tried
-add-tried c =
-    let start = c .before .before .before .before .before .before .before .before .before .before in
-    omega (arith, tried-few (start .pre .0) (now (start .args .tried)) (start .pre .1 .0))
+add-tried c = search tried-few
 
 slice-write-tried : tie.Need-slice-write-tried
 slice-write-tried c = search needs
 
-narrow-requires : tie.Need-narrow-requires
-narrow-requires c κs =
-    let read = c .before in
-    let start = read .before .before .before .before .before .before .before .before .before in
-    omega (arith, entry-few (start .pre .0) (now (start .args .tried)) (start .pre .1 .0) (read .before .wide .ensures .0) (read .row-entry .ensures))
+cast-asked : tie.Need-cast-asked
+cast-asked c = search entry-small
 
 slice-write-asked : tie.Need-slice-write-asked
 slice-write-asked c = search needs
@@ -42,16 +35,10 @@ slice-write-wanted : tie.Need-slice-write-wanted
 slice-write-wanted c = search needs
 
 sub-fresh : tie.Need-sub-fresh
-sub-fresh c =
-    let read = c .before .before .before in
-    let start = read .before .before .before .before .before .before .before .before .before in
-    omega (arith, entry-few (start .pre .0) (now (start .args .tried)) (start .pre .1 .0) (read .before .wide .ensures .0) (read .row-entry .ensures))
+sub-fresh c = search entry-least
 
 slice-write-fresh : tie.Need-slice-write-fresh
-slice-write-fresh c =
-    let read = c .before .before .before in
-    let start = read .before .before .before .before .before .before .before .before .before in
-    omega (arith, entry-few (start .pre .0) (now (start .args .tried)) (start .pre .1 .0) (read .before .wide .ensures .0) (read .row-entry .ensures))
+slice-write-fresh c = search entry-inside
 
 same-length : tie.Need-same-length
 same-length c = search needs
@@ -66,10 +53,7 @@ same-length-4 : tie.Need-same-length-4
 same-length-4 c = search needs
 
 returns : tie.Need-returns
-returns c =
-    let read = c .before .before .before in
-    let start = read .before .before .before .before .before .before .before .before .before in
-    offer-made (start .pre .0) (now (start .args .tried)) (start .pre .1 .0) (read .before .wide .ensures .0) (read .row-entry .ensures) (start .pre .1 .1 .3) (c .before .narrow .ensures) (c .only .ensures)
+returns c = search (needs, offer-made)
 
 pub offer-next-spec : {M : Type 1} → statement M
 offer-next-spec =
@@ -81,7 +65,7 @@ offer-next-spec =
     slice-read-tried
     add-tried
     slice-write-tried
-    narrow-requires
+    cast-asked
     slice-write-asked
     only-requires
     slice-write-wanted

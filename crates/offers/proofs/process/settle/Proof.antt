@@ -1,6 +1,6 @@
 -- `offers::process::settle` meets its contract: whoever was passed and has no step has no holder. Assumes nothing.
 use Prim.Native.Nat.{_-_, _≤_}
-use mathlib.Core.Path.{_≡_, refl, sym, _∙_, ap}
+use mathlib.Core.Path.{_≡_, refl}
 use mathlib.Core.Bool.{cond}
 use mathlib.Core.Logic.{⊎-elim}
 use native.Mathlib.Omega.{arith}
@@ -8,7 +8,6 @@ use lib.Dec.{eqb}
 use lib.ListN.{length, getD}
 use borrow.Author.Tests.{eq-eqb, ne-eqb}
 use borrow.Author.Needs.{needs}
-use Rattle.round.specs.Lists.{tabulate}
 use Rattle.choice.proofs.Written.{Written, begin, write, keep, tabulated}
 use Rattle.offers.proofs.process.settle.Statement.{statement}
 use Rattle.offers.proofs.process.settle.Tie as tie
@@ -27,9 +26,7 @@ shared-slice-read-if1 : tie.Need-shared-slice-read-if1 Inv-loop μ-loop
 shared-slice-read-if1 c = search needs
 
 slice-write-holders : tie.Need-slice-write-holders Inv-loop μ-loop
-slice-write-holders c =
-    let at = c .before .before .before in
-    omega (arith, at .loop .inv .2 .sized, at .before .pre)
+slice-write-holders c = search needs
 
 add-i : tie.Need-add-i Inv-loop μ-loop
 add-i c = search needs
@@ -40,19 +37,17 @@ loop-less c = search needs
 loop-again : tie.Need-loop-again Inv-loop μ-loop
 loop-again c =
     let at = c .before .before .before in (
-      omega (arith, c .before .before .loop-test .taken),
+      omega arith,
       refl,
-      ⊎-elim (λ w. rw (w .1) (write _ _ _ _ _ (omega (arith, at .before .pre, c .before .before .loop-test .taken)) (at .loop .inv .2) (rw (eq-eqb _ 0 (w .0 .taken)))))
+      ⊎-elim (λ w. rw (w .1) (write _ _ _ _ _ (omega arith) (at .loop .inv .2) (rw (eq-eqb _ 0 (w .0 .taken)))))
           (λ w. rw (w .1) (keep _ _ _ _ (at .loop .inv .2) (rw (ne-eqb _ 0 (w .0 .left))))) (c .if1 .came),
     )
 
 same-length : tie.Need-same-length Inv-loop μ-loop
-same-length c = c .before .loop .inv .2 .sized
+same-length c = search needs
 
 returns : tie.Need-returns Inv-loop μ-loop
-returns c =
-    let end : c .before .loop .i ≡ length (c .before .before .args .steps .now) = omega arith in
-    tabulated _ _ _ _ (c .before .loop .inv .2) (omega (arith, c .before .before .pre)) ∙ ap (λ n. tabulate n (λ q. cond (eqb (getD (c .before .before .args .steps .now) q 0) 0) 0 (getD (c .before .before .args .holders .now) q 0))) (c .before .before .pre)
+returns c = rw (← c .before .before .pre) (tabulated _ _ _ _ (c .before .loop .inv .2) (omega arith))
 
 pub settle-spec : {M : Type 1} → statement M
 settle-spec =

@@ -4,7 +4,7 @@ use mathlib.Core.Path.{_≡_, refl}
 use native.Mathlib.Omega.{arith}
 use lib.ListN.{length, getD}
 use Rattle.offers.specs.Sweeps.{Scattered}
-use Rattle.offers.proofs.Sweeps.Scatters.{none-scattered, one-scattered}
+use Rattle.offers.proofs.Sweeps.Scatters.{none-scattered, scattered-inside, one-scattered}
 use borrow.Author.Needs.{needs}
 use Rattle.offers.proofs.scatter.scatter.Statement.{statement}
 use Rattle.offers.proofs.scatter.scatter.Tie as tie
@@ -32,9 +32,7 @@ shared-slice-read-steps : tie.Need-shared-slice-read-steps Inv-loop μ-loop
 shared-slice-read-steps c = search needs
 
 slice-write-steps : tie.Need-slice-write-steps Inv-loop μ-loop
-slice-write-steps c =
-    let at = c .before .before .before in
-    omega (arith, at .loop .inv .2 .many, at .before .pre .1 .within (at .loop .q) (c .before .before .loop-test .taken))
+slice-write-steps c = search scattered-inside
 
 add-q : tie.Need-add-q Inv-loop μ-loop
 add-q c = search needs
@@ -43,10 +41,7 @@ loop-less : tie.Need-loop-less Inv-loop μ-loop
 loop-less c = search needs
 
 loop-again : tie.Need-loop-again Inv-loop μ-loop
-loop-again c =
-    let at = c .before .before .before in
-    let more = c .before .before .loop-test .taken in
-    (omega (arith, more), refl, one-scattered _ _ (at .before .pre .1) refl more (at .loop .inv .2) refl refl)
+loop-again c = (omega arith, refl, search one-scattered)
 
 same-length : tie.Need-same-length Inv-loop μ-loop
 same-length c = search needs

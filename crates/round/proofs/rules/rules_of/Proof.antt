@@ -6,12 +6,12 @@ use native.Mathlib.Omega.{arith}
 use lib.ListN.{length}
 use borrow.Author.Needs.{needs}
 use borrow.Author.Tests.{eq-eqb, ne-eqb}
-use Rattle.round.proofs.Rows.{row-start, Rows, no-rows, rows-more, policyRows, policy-row, five-rules, six-rules}
+use Rattle.round.proofs.Rows.{row-start, RowsTo, no-rows, rows-more, policyRows, policy-row, five-rules, six-rules}
 use Rattle.round.proofs.rules.rules_of.Statement.{statement}
 use Rattle.round.proofs.rules.rules_of.Tie as tie
 
 abbrev Inv-loop : tie.InvT-loop
-Inv-loop body types policy table₀ code₀ table code = (code ≤ 5) × (length table ≡ length table₀) × Rows types code (policyRows types policy body) table
+Inv-loop body types policy table₀ code₀ table code = (code ≤ 5) × (length table ≡ length table₀) × RowsTo types code (policyRows types policy body) table
 
 abbrev μ-loop : tie.MeasureT-loop
 μ-loop body types policy table₀ code₀ table code = 5 - code

@@ -3,12 +3,12 @@ use Prim.Native.Nat.{_+_, _-_, _≤_}
 use mathlib.Core.Path.{_≡_, refl}
 use native.Mathlib.Omega.{arith}
 use borrow.Author.Needs.{needs}
-use Rattle.round.proofs.Rows.{Row, row-begin, row-write, zero-row}
+use Rattle.round.proofs.Rows.{RowFrom, row-begin, row-write, zero-row}
 use Rattle.round.proofs.rules.write_dereserved.Statement.{statement}
 use Rattle.round.proofs.rules.write_dereserved.Tie as tie
 
 abbrev Inv-loop : tie.InvT-loop
-Inv-loop types table₀ at s₀ s-end table s = (s ≤ 3 + types) × (s-end ≡ 3 + types) × Row at s (λ _. 0) table₀ table
+Inv-loop types table₀ at s₀ s-end table s = (s ≤ 3 + types) × (s-end ≡ 3 + types) × RowFrom at s (λ _. 0) table₀ table
 
 abbrev μ-loop : tie.MeasureT-loop
 μ-loop types table₀ at s₀ s-end table s = 3 + types - s

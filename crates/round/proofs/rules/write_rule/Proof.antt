@@ -5,12 +5,12 @@ use native.Mathlib.Omega.{arith}
 use lib.ListN.{length-set}
 use borrow.Author.Needs.{needs}
 use Rattle.round.specs.Questions.{reservedIn}
-use Rattle.round.proofs.Rows.{row-start, Row, row-begin, row-write, rule-row}
+use Rattle.round.proofs.Rows.{row-start, RowFrom, row-begin, row-write, rule-row}
 use Rattle.round.proofs.rules.write_rule.Statement.{statement}
 use Rattle.round.proofs.rules.write_rule.Tie as tie
 
 abbrev Inv-loop : tie.InvT-loop
-Inv-loop body types code receiver table₀ at t₀ table t = (t ≤ types) × Row (at + 3) t (reservedIn types body code) table₀ table
+Inv-loop body types code receiver table₀ at t₀ table t = (t ≤ types) × RowFrom (at + 3) t (reservedIn types body code) table₀ table
 
 abbrev μ-loop : tie.MeasureT-loop
 μ-loop body types code receiver table₀ at t₀ table t = types - t

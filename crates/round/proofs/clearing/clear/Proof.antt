@@ -8,9 +8,9 @@ use mathlib.Core.List.{List, _++_}
 use native.Mathlib.Omega.{arith}
 use denote.Ref.{now}
 use lib.ListN.{length, set, drop, replicate, length-set}
 use Rattle.round.proofs.Words.{reached}
-use Rattle.offers.proofs.clearing.clear.Statement.{statement}
-use Rattle.offers.proofs.clearing.clear.Tie as tie
+use Rattle.round.proofs.clearing.clear.Statement.{statement}
+use Rattle.round.proofs.clearing.clear.Tie as tie
 
 abbrev Inv-loop : tie.InvT-loop
 Inv-loop area₀ size i₀ area i = (i ≤ size) × (length area ≡ length area₀) × (area ≡ replicate i 0 ++ drop i area₀)
