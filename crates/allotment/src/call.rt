@@ -2,8 +2,8 @@
 use crate::Answer;
 use crate::areas::write_answer;
 use offers::process::run_offers;
-use offers::table::zeros;
 use round::clearing::clear;
+use round::clearing::zeros;
 use round::head::Head;
 use round::reader::Reading;
 use round::reader::candidate_table;

@@ -13,8 +13,8 @@ use Rattle.round.specs.Lists.{count}
 use Rattle.choice.specs.Use.{holds, Placing}
 use Rattle.choice.specs.Step.{raises, takenForUse}
 use Rattle.choice.specs.Search.{atType, Moved, Stuck, Searched}
-use Rattle.choice.specs.Taken.{Without, Attempted, Took}
-use Rattle.choice.proofs.Counting.{lessOr, sameOr, bit-true, bit-false, count-le}
+use Rattle.choice.specs.Taken.{Without, AllExhausted, Attempted, Took}
+use Rattle.choice.proofs.Counting.{test, lessOr, sameOr, bit-true, bit-false, count-le}
 use Rattle.choice.proofs.Counts.{count-more, count-within, count-rest}
 use Rattle.choice.proofs.Tabulate.{getD-zeros}
 use Rattle.choice.proofs.Use.{placed, PlacingTo, placed-raises}
@@ -205,3 +205,18 @@ module _ (reserved marks : List ℕ) (X : ℕ → Bool) where
           where
             away : (q t : ℕ) → p ≤ q → getD placed₀ q 0 ≡ suc t → ⊥
             away q t h e = omega (arith, d .rest q h)
+
+    -- where all types are exhausted nobody is placed
+    pub passed-full : AllExhausted (length reserved) exhausted → Down reserved marks X placed₀ exhausted n (p + 1)
+    passed-full all =
+        test (X p)
+        (λ in-play.
+        passed-by placed₀ exhausted in-play
+        record {
+          same = refl;
+          more = λ t v. v;
+          full = λ t v z. absurd (omega arith);
+          closed = λ q t u v z. absurd (omega arith);
+          own = λ u l h. all u l;
+        })
+        passed

@@ -14,6 +14,9 @@ pub record Without (reserved exhausted : List ℕ) : Type 0 where
   pub types : length exhausted ≡ 8
   pub none : (t : ℕ) → 0 < getD exhausted t 0 → getD reserved t 0 ≡ 0
 
+abbrev pub AllExhausted : ℕ → List ℕ → Type 0
+AllExhausted types exhausted = (t : ℕ) → t < types → 0 < getD exhausted t 0
+
 -- one more is placed and nothing more is exhausted, or it is not, and what the search visited is exhausted
 pub record Attempted (reserved marks exhausted exhausted′ before after : List ℕ) (c : ℕ) (r : Bool) : Type 0 where
   pub found : r ≡ true → Moved reserved marks exhausted before after c

@@ -1,18 +1,12 @@
 // One step: taking for use, then filling by merit.
 use crate::fill::fill;
 use crate::take::take_for_use;
+use round::clearing::zeros;
 ghost use mathlib.Core.Path.{_≡_};
 ghost use Prim.Native.Nat.{_-_, _≤_, _<_};
-ghost use lib.ListN.{length, replicate};
+ghost use lib.ListN.{length};
 ghost use Rattle.choice.specs.Offers.{considersBy, Places};
 ghost use Rattle.choice.specs.Fill.{stepGiven, stepVacant};
-
-// No type for any place.
-fn no_types() -> [u8; 512]
-    ensures { λ r. ⌜ r ≡ replicate 512 0 ⌝ }
-{
-    [0u8; 512]
-}
 
 // The positions that so many leave.
 fn left_of(positions: usize, used: usize) -> usize
@@ -41,7 +35,7 @@ pub fn step(
         × (r ≡ stepVacant (now (reserved .entry)) (now (marks .entry)) (considersBy (now (offers .entry)) (now (steps .entry)) code) positions) ⌝ }
 {
     let n = marks.len();
-    let mut types = no_types();
+    let mut types = zeros();
     let used = take_for_use(reserved, marks, offers, steps, code, &mut types[..n]);
     let free = left_of(positions, used);
     let filled = fill(free, number, offers, code, &types[..n], steps);

@@ -2,11 +2,12 @@
 use crate::placing::has_type;
 use crate::placing::place;
 ghost use mathlib.Core.Path.{_≡_};
+ghost use mathlib.Core.Bool.{false};
 ghost use Prim.Native.Nat.{_≤_, _<_};
 ghost use lib.ListN.{length, replicate};
 ghost use Rattle.choice.specs.Offers.{considersBy};
 ghost use Rattle.choice.specs.Search.{Searching};
-ghost use Rattle.choice.specs.Taken.{Without, Attempted, Took};
+ghost use Rattle.choice.specs.Taken.{Without, AllExhausted, Attempted, Took};
 
 // Whether place p offers an entry of the code and has no step yet.
 pub fn considers(offers: &[u8], steps: &[u8], code: usize, p: usize) -> bool
@@ -38,6 +39,19 @@ fn without_positions(reserved: &[usize]) -> [u8; 8]
         }
     }
     exhausted
+}
+
+// Whether some type is not exhausted.
+fn some_open(exhausted: &[u8], types: usize) -> bool
+    requires { ⌜ types ≤ length (now exhausted) ⌝ }
+    ensures { λ r. ⌜ (r ≡ false → AllExhausted types (now (exhausted .entry))) ⌝ }
+{
+    for t in 0..types {
+        if exhausted[t] == 0 {
+            return true;
+        }
+    }
+    false
 }
 
 // Places p with those taken before, if that can be; what a search in vain visited is exhausted.
@@ -74,11 +88,16 @@ pub fn take_for_use(
     ensures { λ r. ⌜ Took (now (reserved .entry)) (now (marks .entry)) (now (placed .exit)) (considersBy (now (offers .entry)) (now (steps .entry)) code) r ⌝ }
 {
     let mut exhausted = without_positions(reserved);
+    let mut more = some_open(&exhausted, reserved.len());
     let mut n = 0;
     for p in 0..marks.len() {
-        if considers(offers, steps, code, p) {
-            if take_one(reserved, marks, placed, &mut exhausted, p) {
-                n += 1;
+        if more {
+            if considers(offers, steps, code, p) {
+                if take_one(reserved, marks, placed, &mut exhausted, p) {
+                    n += 1;
+                } else {
+                    more = some_open(&exhausted, reserved.len());
+                }
             }
         }
     }

@@ -2,9 +2,9 @@
 use crate::gather::gather;
 use crate::scatter::scatter;
 use crate::table::nobody;
-use crate::table::zeros;
 use choice::choose;
 use round::access::institute_body;
+use round::clearing::zeros;
 use round::head::Head;
 use round::rules::rule_table;
 use round::rules::rules_of;

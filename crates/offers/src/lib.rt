@@ -4,4 +4,4 @@ mod gather;
 mod offering;
 pub mod process;
 mod scatter;
-pub mod table;
+mod table;

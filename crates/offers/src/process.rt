@@ -6,8 +6,8 @@
 use crate::choosing::choose_all;
 use crate::offering::offer_all;
 use crate::table::none_fresh;
-use crate::table::zeros;
 use round::clearing::clear;
+use round::clearing::zeros;
 use round::head::Head;
 ghost use mathlib.Core.Path.{_≡_};
 ghost use lib.ListN.{length, replicate};

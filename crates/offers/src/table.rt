@@ -1,13 +1,6 @@
-// Tables of bytes, with one for each candidate or for each place of a merit list.
+// The tables of a sweep.
 ghost use mathlib.Core.Path.{_≡_};
 ghost use lib.ListN.{length, replicate};
-
-// A table of zeros.
-pub fn zeros() -> [u8; 512]
-    ensures { λ r. ⌜ r ≡ replicate 512 0 ⌝ }
-{
-    [0; 512]
-}
 
 // A list with room for every candidate.
 pub fn nobody() -> [u16; 512]

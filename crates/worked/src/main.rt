@@ -3,15 +3,8 @@ use allotment::Answer;
 ghost use mathlib.Core.Path.{_≡_};
 ghost use lib.ListN.{length};
 
-// An answer area for these rounds.
-fn answer_room() -> [u8; 64]
-    ensures { λ r. ⌜ length r ≡ 64 ⌝ }
-{
-    [0; 64]
-}
-
-// A work area for these rounds.
-fn work_room() -> [u8; 64]
+// An area for these rounds.
+fn room() -> [u8; 64]
     ensures { λ r. ⌜ length r ≡ 64 ⌝ }
 {
     [0; 64]
@@ -19,8 +12,8 @@ fn work_room() -> [u8; 64]
 
 // Allots a round and prints what document 01 says.
 fn show(file: &[u8]) {
-    let mut answer = answer_room();
-    let mut work = work_room();
+    let mut answer = room();
+    let mut work = room();
     let got = allotment::allot(file, &mut answer, &mut work);
     match got {
         Answer::Allotted(offers) => lines::allotted(file, offers, &answer),

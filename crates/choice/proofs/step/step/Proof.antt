@@ -10,21 +10,21 @@ use borrow.Author.Needs.{needs}
 use Rattle.choice.proofs.step.step.Statement.{statement}
 use Rattle.choice.proofs.step.step.Tie as tie
 
-no-types-requires : tie.Need-no-types-requires
-no-types-requires c κs = search needs
+zeros-requires : tie.Need-zeros-requires
+zeros-requires c κs = search needs
 
 array-borrow-prefix-types : tie.Need-array-borrow-prefix-types
 array-borrow-prefix-types c = search needs
 
-abbrev start : tie.After-no-types → tie.Start
+abbrev start : tie.After-zeros → tie.Start
 start m = m .before .before .before .before .before
 
 -- the number of places, which have a type each
-abbrev places : tie.After-no-types → ℕ
+abbrev places : tie.After-zeros → ℕ
 places m = length (start m .args .marks .now)
 
-within : (m : tie.After-no-types) → places m ≤ length (m .no-types .result)
-within m = omega (arith, sized 512 (m .no-types .ensures), start m .pre .1 .few)
+within : (m : tie.After-zeros) → places m ≤ length (m .zeros .result)
+within m = omega (arith, sized 512 (m .zeros .ensures), start m .pre .1 .few)
 
 slice-aggregate-take-for-use : tie.Need-slice-aggregate-take-for-use
 slice-aggregate-take-for-use c = sym (length-take-le _ _ (within (c .before .before)))
@@ -33,12 +33,12 @@ take-for-use-requires : tie.Need-take-for-use-requires
 take-for-use-requires c κs =
     let m = c .before .before in
     let p = start m .pre in
-    (p .0 .0, p .0 .1, p .1 .offers-each, p .1 .steps-each, ap (take (places m)) (m .no-types .ensures) ∙ take-replicate _ 512 (p .1 .few))
+    (p .0 .0, p .0 .1, p .1 .offers-each, p .1 .steps-each, ap (take (places m)) (m .zeros .ensures) ∙ take-replicate _ 512 (p .1 .few))
 
 left-of-requires : tie.Need-left-of-requires
 left-of-requires c κs = search needs
 
-abbrev made : tie.After-take-for-use → tie.After-no-types
+abbrev made : tie.After-take-for-use → tie.After-zeros
 made t = t .before .before .before
 
 -- the types that taking for use leaves
@@ -48,14 +48,14 @@ typed t = t .take-for-use .last .1 .1 .1 .1 .1 .0
 array-share-prefix-types : tie.Need-array-share-prefix-types
 array-share-prefix-types c =
     let t = c .before .before in
-    omega (arith, length-front (made t .no-types .result) (typed t) (places (made t)) (t .take-for-use .kept .1 .1 .1 .1 .1 .0), within (made t))
+    omega (arith, length-front (made t .zeros .result) (typed t) (places (made t)) (t .take-for-use .kept .1 .1 .1 .1 .1 .0), within (made t))
 
 -- the types of the places come back from the search as they were left
-types-back : (t : tie.After-take-for-use) → take (places (made t)) (typed t ++ drop (places (made t)) (made t .no-types .result)) ≡ typed t
-types-back t = front-back (made t .no-types .result) (typed t) (places (made t)) (within (made t)) (t .take-for-use .kept .1 .1 .1 .1 .1 .0)
+types-back : (t : tie.After-take-for-use) → take (places (made t)) (typed t ++ drop (places (made t)) (made t .zeros .result)) ≡ typed t
+types-back t = front-back (made t .zeros .result) (typed t) (places (made t)) (within (made t)) (t .take-for-use .kept .1 .1 .1 .1 .1 .0)
 
 types-length : (t : tie.After-take-for-use) → length (typed t) ≡ places (made t)
-types-length t = t .take-for-use .kept .1 .1 .1 .1 .1 .0 ∙ length-take-le (places (made t)) (made t .no-types .result) (within (made t))
+types-length t = t .take-for-use .kept .1 .1 .1 .1 .1 .0 ∙ length-take-le (places (made t)) (made t .zeros .result) (within (made t))
 
 slice-aggregate-fill : tie.Need-slice-aggregate-fill
 slice-aggregate-fill c = let t = c .before .before .before in sym (ap length (types-back t) ∙ types-length t)
@@ -86,7 +86,7 @@ pub step-spec : {M : Type 1} → statement M
 step-spec =
     tie.close
     (tie.spec
-    no-types-requires
+    zeros-requires
     array-borrow-prefix-types
     slice-aggregate-take-for-use
     take-for-use-requires
