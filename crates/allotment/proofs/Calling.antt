@@ -3,15 +3,13 @@ use Prim.Native.Nat.{ℕ, _+_, _*_, _<_, _≤_}
 use mathlib.Core.Path.{_≡_, sym, ap, _∙_}
 use mathlib.Core.List.{List, _++_}
 use native.Mathlib.Omega.{arith}
-use lib.ListN.{length, take, drop, replicate}
-use lib.Seq.{length-take-le}
+use lib.ListN.{length, drop, replicate}
 use Rattle.round.specs.declared.head.Head.{Head as CodeHead}
 use Rattle.round.specs.declared.reader.Reading.{Reading}
 use Rattle.round.specs.declared.reader.Reading.the-variants.{Read}
 use Rattle.round.specs.declared.reader.Reading.the-variants.{Refused as ReadingRefused}
 use Rattle.round.specs.Outcome.{verdictOf, RoundRead}
 use Rattle.round.specs.Reading.{roundOf}
-use Rattle.choice.proofs.Steps.{sized}
 use Rattle.allotment.specs.declared.Answer.{Answer}
 use Rattle.allotment.specs.declared.Answer.the-variants.{Allotted, Refused}
 use Rattle.offers.specs.Process.{offersMade}
@@ -19,23 +17,11 @@ use Rattle.allotment.specs.Areas.{answerBytes, answerSize, workSize}
 use Rattle.allotment.specs.Promise.{Promise}
 use Rattle.offers.specs.Held.{AtHand}
 use Rattle.allotment.specs.Handing.{refusedBy}
-use Rattle.offers.proofs.Sweeps.Known.{candidates-many, institutes-many, round-sound}
+use Rattle.offers.proofs.Sweeps.Known.{candidates-many, institutes-many}
 use Rattle.allotment.proofs.Files.Returns.{promise-refused, promise-answer-small, promise-work-small, promise-allotted}
 
 -- a round that was read
 module _ {file : List ℕ} {h : CodeHead} {candidates merits : List ℕ} (hand : AtHand file h candidates merits) where
-  pub few : (h .candidates ≤ 512) × (h .institutes ≤ 32)
-  few =
-      let s = round-sound hand in
-      omega (arith, candidates-many hand, institutes-many hand, s .candidates-most, s .institutes-most)
-
-  -- a table of zeros has a place for each candidate
-  pub places : {table : List ℕ} → table ≡ replicate 512 0 → h .candidates ≤ length table
-  places e = omega (arith, few, sized 512 e)
-
-  pub places-many : {table : List ℕ} → table ≡ replicate 512 0 → length (take (h .candidates) table) ≡ h .candidates
-  places-many {table} e = length-take-le (h .candidates) table (places e)
-
   -- the sizes that question 14 asks for
   answer-size : answerSize (roundOf file) ≡ 2 * h .candidates + 12 * h .institutes
   answer-size = omega (arith, candidates-many hand, institutes-many hand)

@@ -2,20 +2,22 @@
 use Prim.Native.Nat.{ℕ, zero, suc, _+_, _*_, _-_, _≤_, _<_}
 use mathlib.Core.Path.{_≡_, refl, sym, ap, _∙_, fun-ext}
 use mathlib.Core.Bool.{Bool, true, false, cond}
-use mathlib.Core.List.{List}
+use mathlib.Core.List.{List, _++_}
 use native.Mathlib.Omega.{arith}
 use native.Mathlib.Numerals.{add-one}
 use native.Mathlib.Nat.{add-zero, pow-succ', pow-le-pow-right, suc-mul, mul-le-mul-right}
 use lib.Dec.{eqb}
-use lib.ListN.{length, getD, take, drop, set, length-set, replicate, length-replicate, length-drop}
+use lib.ListN.{length, getD, take, drop, set, length-set, replicate, length-drop}
 use lib.Seq.{getD-set-same, getD-set-other, getD-take, getD-drop, ext-getD, length-take-le}
+use mir.Syntax.{w64}
+use mir.Val.{Fits}
 use borrow.Author.Tests.{eq-eqb, ne-eqb}
 use Rattle.round.specs.Category.{codeOf, categoryOf}
 use Rattle.round.specs.Lists.{tabulate, tabulateFrom}
 use Rattle.round.specs.Rules.{numberIn, ruleIn, rulesIn, RuleTable}
-use Rattle.round.proofs.Words.{length-tabulate, tabulate-at}
+use Rattle.round.proofs.Words.{length-tabulate, tabulate-at, cleared}
 use Rattle.choice.specs.Choice.{Progress, considers, positionsAt, takenAt, vacantAt, advance, advanceAll, nothingDone, choose}
-use Rattle.choice.specs.Offers.{offeredBy, considersBy}
+use Rattle.choice.specs.Offers.{offeredBy, considersBy, Places}
 use Rattle.choice.specs.Fill.{stepGiven, stepVacant}
 use Rattle.choice.specs.Handed.{doneBy, Handing}
 use Rattle.choice.proofs.Counting.{sameOr}
@@ -30,8 +32,8 @@ code-back (suc (suc (suc (suc zero)))) l = refl
 code-back (suc (suc (suc (suc (suc code))))) l = absurd (omega arith)
 
 -- fewer rows of a table of rules
-pub fewer-rules : (types n m : ℕ) (table : List ℕ) → m ≤ n → RuleTable types n table → RuleTable types m table
-fewer-rules types n m table l t = record {
+pub fewer-rules : {types n m : ℕ} {table : List ℕ} → m ≤ n → RuleTable types n table → RuleTable types m table
+fewer-rules {types} l t = record {
   types-most = t .types-most;
   steps-most = omega (arith, t .steps-most);
   long = omega (arith, t .long, mul-le-mul-right (3 + types) l);
@@ -72,12 +74,8 @@ done-same done given handed e h =
     ap (λ (l : List ℕ). record { given = l; handed = λ j. getD handed j 0 }) e
     ∙ ap (λ (f : ℕ → ℕ). record { given = done .given; handed = f }) (fun-ext h)
 
--- the numbers handed are small
-pub handed-small : (k : ℕ) (handed : List ℕ) → k ≤ 12 → Handing k handed → (j : ℕ) → getD handed j 0 ≤ 65535 * 4096
-handed-small k handed l h j = let two : 0 < 2 = omega arith in omega (arith, h .low j, pow-le-pow-right two l)
-
 -- row k of the rules, at the place where the code reads it, and what stands before the step
-module _ (types k : ℕ) (rules handed : List ℕ) (t : RuleTable types (suc k) rules) (h : Handing k handed) where
+module _ {types k : ℕ} {rules handed : List ℕ} (t : RuleTable types (suc k) rules) (h : Handing k handed) where
   abbrev at : ℕ
   at = k * (3 + types)
 
@@ -87,8 +85,24 @@ module _ (types k : ℕ) (rules handed : List ℕ) (t : RuleTable types (suc k) 
   pub receiver-low : getD rules (at + 1) 0 < length handed
   receiver-low = omega (arith, t .handed-on k (omega arith), h .sized)
 
+  pub receiver-fits : Fits w64 (getD rules (at + 1) 0 * 8)
+  receiver-fits = omega (arith, receiver-low, h .sized)
+
   abbrev positions : ℕ
   positions = getD rules (at + 2) 0 + getD handed (k + 1) 0
+
+  -- the numbers handed are small
+  handed-small : (j : ℕ) → getD handed j 0 ≤ 65535 * 4096
+  handed-small j =
+      let few : k ≤ 12 = omega (arith, t .steps-most) in
+      let two : 0 < 2 = omega arith in
+      omega (arith, h .low j, pow-le-pow-right two few)
+
+  pub positions-fit : Fits w64 positions
+  positions-fit = omega (arith, handed-small (k + 1), t .own-most k (omega arith))
+
+  pub handed-fits : {vacant : ℕ} → vacant ≤ positions → Fits w64 (getD handed (getD rules (at + 1) 0) 0 + vacant)
+  handed-fits l = omega (arith, handed-small (getD rules (at + 1) 0), handed-small (k + 1), t .own-most k (omega arith))
 
   -- what is handed to each step after this one
   abbrev handing-on : ℕ → List ℕ
@@ -108,12 +122,12 @@ module _ (types k : ℕ) (rules handed : List ℕ) (t : RuleTable types (suc k) 
       at-most false = omega arith
 
   -- a step of the code is a step of the definition
-  pub step-advances : (marks offers given given' : List ℕ) (vacant : ℕ)
+  pub step-advances : (marks offers given : List ℕ) {given' : List ℕ} {vacant : ℕ}
       → (given' ≡ stepGiven (k + 1) (take (at + 3 + types - (at + 3)) (drop (at + 3) rules)) marks (considersBy offers given (getD rules at 0)) positions given)
       × (vacant ≡ stepVacant (take (at + 3 + types - (at + 3)) (drop (at + 3) rules)) marks (considersBy offers given (getD rules at 0)) positions)
       → (doneBy given' (handing-on vacant) ≡ advance marks (offeredBy offers) (suc k) (ruleIn types rules k) (doneBy given handed)) × Handing (suc k) (handing-on vacant)
   unfolding advance vacantAt takenAt positionsAt considers ruleIn
-  step-advances marks offers given given' vacant s = (
+  step-advances marks offers given {given'} {vacant} s = (
     done-same (advance marks (offeredBy offers) (suc k) (ruleIn types rules k) (doneBy given handed)) given' (handing-on vacant)
         (rw (reserved, coded, add-one) at (s .0))
         (λ j. handed-grows handed (getD rules (at + 1) 0) vacant receiver-low j ∙ rw (rw (reserved, coded, add-one) at (s .1))),
@@ -128,34 +142,39 @@ module _ (types k : ℕ) (rules handed : List ℕ) (t : RuleTable types (suc k) 
 
 -- after k steps the rest of the rules leads to what all of them lead to from nothing done
 pub record Stepping (marks offers rules : List ℕ) (types count k : ℕ) (steps handed : List ℕ) : Type 0 where
-  pub sized : length steps ≡ length marks
+  pub places : Places marks offers steps
   pub handing : Handing k handed
   pub rest : advanceAll marks (offeredBy offers) (suc k) (tabulateFrom k (count - k) (ruleIn types rules)) (doneBy steps handed)
       ≡ advanceAll marks (offeredBy offers) 1 (rulesIn types count rules) (nothingDone marks (offeredBy offers))
 
-module _ (marks offers rules : List ℕ) (types count : ℕ) where
-  pub set-out : (steps handed : List ℕ) → steps ≡ replicate (length marks) 0 → handed ≡ replicate 13 0 → Stepping marks offers rules types count 0 steps handed
-  set-out steps handed es eh = record {
-    sized = ap length es ∙ length-replicate (length marks) 0;
+same-places : {marks offers steps steps' : List ℕ} → Places marks offers steps → length steps' ≡ length steps → Places marks offers steps'
+same-places p len = record { few = p .few; offers-each = p .offers-each; steps-each = len ∙ p .steps-each }
+
+module _ {marks offers rules : List ℕ} {types count : ℕ} where
+  pub set-out : {steps₀ steps handed : List ℕ} → Places marks offers steps₀ → steps ≡ replicate (length marks) 0 ++ drop (length marks) steps₀ → length steps ≡ length steps₀
+      → handed ≡ replicate 13 0 → Stepping marks offers rules types count 0 steps handed
+  set-out {steps₀} {steps} {handed} places clear len eh = record {
+    places = same-places places len;
     handing = record { sized = ap length eh; low = λ j. rw (eh, getD-zeros 13 j) (omega arith) };
     rest =
         let all : count - 0 ≡ count = omega arith in
         rw all
         (ap (advanceAll marks (offeredBy offers) 1 (rulesIn types count rules))
-        (unfold nothingDone in done-same (nothingDone marks (offeredBy offers)) steps handed es (λ j. rw eh (getD-zeros 13 j))));
+        (unfold nothingDone in
+        done-same (nothingDone marks (offeredBy offers)) steps handed (cleared _ _ _ clear (len ∙ places .steps-each)) (λ j. rw eh (getD-zeros 13 j))));
   }
 
-  pub go-on : (k : ℕ) (steps handed steps' handed' : List ℕ) → k < count → Stepping marks offers rules types count k steps handed → length steps' ≡ length steps
+  pub go-on : {k : ℕ} {steps handed steps' handed' : List ℕ} → k < count → Stepping marks offers rules types count k steps handed → length steps' ≡ length steps
       → (doneBy steps' handed' ≡ advance marks (offeredBy offers) (suc k) (ruleIn types rules k) (doneBy steps handed)) × Handing (suc k) handed'
       → Stepping marks offers rules types count (k + 1) steps' handed'
   unfolding advanceAll
-  go-on k steps handed steps' handed' l g len s = rw add-one record {
-    sized = len ∙ g .sized;
+  go-on {k} l g len s = rw add-one record {
+    places = same-places (g .places) len;
     handing = s .1;
     rest = rw (s .0) (let more : count - k ≡ suc (count - suc k) = omega arith in rw more at (g .rest));
   }
 
-  pub arrive : (k : ℕ) (steps handed : List ℕ) → count ≤ k → Stepping marks offers rules types count k steps handed
+  pub arrive : {k : ℕ} {steps handed : List ℕ} → count ≤ k → Stepping marks offers rules types count k steps handed
       → steps ≡ choose marks (offeredBy offers) (rulesIn types count rules)
   unfolding choose advanceAll
-  arrive k steps handed l g = let none : count - k ≡ 0 = omega arith in ap (λ (done : Progress). done .given) (rw none at (g .rest))
+  arrive {k} l g = let none : count - k ≡ 0 = omega arith in ap (λ (done : Progress). done .given) (rw none at (g .rest))

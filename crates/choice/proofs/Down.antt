@@ -21,8 +21,9 @@ use Rattle.choice.proofs.Use.{placed, PlacingTo, placed-raises}
 use Rattle.choice.proofs.Tight.{placed-blocked}
 use Rattle.choice.proofs.Taking.{takenForUse-considered, takenBefore-placed}
 
--- just those taken below p have a type; the exhausted types are full, and who is placed at one holds exhausted types only
-pub record Down (reserved marks : List ℕ) (considered : ℕ → Bool) (placed exhausted : List ℕ) (n p : ℕ) : Type 0 where
+-- just those taken below p have a type; the exhausted types are full, and who is placed at one holds exhausted types only;
+-- without more all types are exhausted
+pub record Down (reserved marks : List ℕ) (considered : ℕ → Bool) (placed exhausted : List ℕ) (more : Bool) (n p : ℕ) : Type 0 where
   pub placing : Placing reserved marks placed
   pub each : (q : ℕ) → q < p → takenForUse reserved marks considered q ≡ ltb 0 (getD placed q 0)
   pub rest : (q : ℕ) → p ≤ q → getD placed q 0 ≡ 0
@@ -30,6 +31,8 @@ pub record Down (reserved marks : List ℕ) (considered : ℕ → Bool) (placed 
   pub full : (t : ℕ) → 0 < getD exhausted t 0 → getD reserved t 0 ≤ atType placed t
   pub closed : (q t u : ℕ) → 0 < getD exhausted t 0 → getD placed q 0 ≡ suc t → u < length reserved
       → holds (getD marks q 0) u ≡ true → 0 < getD exhausted u 0
+  pub types : length exhausted ≡ 8
+  pub over : more ≡ false → AllExhausted (length reserved) exhausted
 
 -- what a search says of the list that its visited types start from
 pub attempted-found : (reserved marks : List ℕ) {v e v′ b a : List ℕ} (c : ℕ) {r : Bool} → Searched reserved marks v v′ b a c r → v ≡ e → r ≡ true
@@ -77,13 +80,9 @@ module _ (reserved marks : List ℕ) (X : ℕ → Bool) where
   abbrev H : ℕ → Bool
   H = takenForUse reserved marks X
 
-  -- .. said of what is the same
-  pub down-by : {l l₁ e e₁ : List ℕ} {n n₁ : ℕ} (p : ℕ) → l ≡ l₁ → e ≡ e₁ → n ≡ n₁ → Down reserved marks X l₁ e₁ n₁ p → Down reserved marks X l e n p
-  down-by p el ee en d = rw (el, ee, en) d
-
-  pub top : (placed exhausted : List ℕ) → placed ≡ replicate (length marks) 0 → Without reserved exhausted
-      → Down reserved marks X placed exhausted 0 0
-  top placed exhausted empty none = record {
+  pub top : (placed exhausted : List ℕ) (more : Bool) → placed ≡ replicate (length marks) 0 → Without reserved exhausted
+      → (more ≡ false → AllExhausted (length reserved) exhausted) → Down reserved marks X placed exhausted more 0 0
+  top placed exhausted more empty none over = record {
     placing = record {
       each = ap length empty ∙ length-replicate (length marks) zero;
       held = λ i t l e. absurd (clash i t e);
@@ -94,31 +93,38 @@ module _ (reserved marks : List ℕ) (X : ℕ → Bool) where
     number = refl;
     full = λ t v. omega (arith, none .none t v);
     closed = λ q t u v e. absurd (clash q t e);
+    types = none .types;
+    over = over;
   }
     where
       clash : (q t : ℕ) → getD placed q 0 ≡ suc t → ⊥
       clash q t e = omega (arith, no-type (length marks) placed q empty)
 
+  pub as-many : {placed₀ placed exhausted : List ℕ} {more : Bool} {n p : ℕ} → Down reserved marks X placed exhausted more n p → placed₀ ≡ replicate (length marks) 0
+      → length placed ≡ length placed₀
+  as-many d empty = omega (arith, d .placing .each, ap length empty, length-replicate (length marks) zero)
+
   -- the end of the list is reached
-  pub bottom : (placed exhausted : List ℕ) (n p : ℕ) → p ≡ length marks → Down reserved marks X placed exhausted n p → Took reserved marks placed X n
-  bottom placed exhausted n p end d = record {
+  pub bottom : {placed exhausted : List ℕ} {more : Bool} {n p : ℕ} → Down reserved marks X placed exhausted more n p → p ≡ length marks → Took reserved marks placed X n
+  bottom d end = record {
     each = λ q l. d .each q (omega arith);
     number = d .number ∙ ap (λ (k : ℕ). count k H) end;
   }
 
-  module _ (placed₀ exhausted : List ℕ) (n p : ℕ) (inside : p < length marks) (d : Down reserved marks X placed₀ exhausted n p) where
+  module _ {placed₀ exhausted : List ℕ} {more : Bool} {n p : ℕ} (inside : p < length marks) (d : Down reserved marks X placed₀ exhausted more n p) where
     unplaced : ltb 0 (getD placed₀ p 0) ≡ false
     unplaced = le-ltb 0 (getD placed₀ p 0) (omega (arith, d .rest p (omega arith)))
 
-    -- the place is not considered
-    pub passed : X p ≡ false → Down reserved marks X placed₀ exhausted n (p + 1)
-    passed out = record {
+    not-considered : X p ≡ false → Down reserved marks X placed₀ exhausted more n (p + 1)
+    not-considered out = record {
       placing = d .placing;
       each = λ q l. sameOr q p (λ s. rw s (left ∙ sym unplaced)) (λ o. d .each q (omega arith));
       rest = λ q l. d .rest q (omega arith);
       number = omega (arith, count-more H p n 0 (d .number) (bit-false (H p) left));
       full = d .full;
       closed = d .closed;
+      types = d .types;
+      over = d .over;
     }
       where
         left : H p ≡ false
@@ -137,16 +143,17 @@ module _ (reserved marks : List ℕ) (X : ℕ → Bool) where
         takenForUse-considered reserved marks X p in-play
         ∙ ap (λ (A : List ℕ). raises reserved A (getD marks p 0)) (takenBefore-placed reserved marks X (λ q. getD l q 0) p each)
 
-    -- it is placed
-    pub placed-one : (placed′ : List ℕ) → X p ≡ true → Moved reserved marks exhausted placed₀ placed′ p
-        → Down reserved marks X placed′ exhausted (n + 1) (p + 1)
-    placed-one placed′ in-play m = record {
+    moved : (placed′ : List ℕ) → X p ≡ true → Moved reserved marks exhausted placed₀ placed′ p
+        → Down reserved marks X placed′ exhausted more (n + 1) (p + 1)
+    moved placed′ in-play m = record {
       placing = m .placing;
       each = λ q l. sameOr q p (λ s. rw s (taken ∙ sym (lt-ltb 0 _ (m .reached)))) (λ o. same q (omega arith));
       rest = λ q l. m .apart q (λ s. omega arith) (d .rest q (omega arith));
       number = count-more H p n 1 (d .number) (bit-true (H p) taken);
-      full = λ t v. omega (arith, d .full t v, more t v);
+      full = λ t v. omega (arith, d .full t v, no-fewer t v);
       closed = λ q t u v e. d .closed q t u v (m .comes q t v e .0);
+      types = d .types;
+      over = d .over;
     }
       where
         same : (q : ℕ) → q < p → H q ≡ ltb 0 (getD placed′ q 0)
@@ -163,8 +170,8 @@ module _ (reserved marks : List ℕ) (X : ℕ → Bool) where
         sizes : length placed₀ ≡ length placed′
         sizes = d .placing .each ∙ sym (m .placing .each)
 
-        more : (t : ℕ) → 0 < getD exhausted t 0 → atType placed₀ t ≤ atType placed′ t
-        more t v =
+        no-fewer : (t : ℕ) → 0 < getD exhausted t 0 → atType placed₀ t ≤ atType placed′ t
+        no-fewer t v =
             rw sizes
             (count-le (length placed′) (λ q. eqb (getD placed₀ q 0) (suc t)) (λ q. eqb (getD placed′ q 0) (suc t))
             (λ q l e. eq-eqb _ _ (m .stays q t (λ s. away q t s (eqb-true _ _ e)) v (eqb-true _ _ e))))
@@ -172,11 +179,10 @@ module _ (reserved marks : List ℕ) (X : ℕ → Bool) where
             away : (q t : ℕ) → q ≡ p → getD placed₀ q 0 ≡ suc t → ⊥
             away q t s e = omega (arith, d .rest q (omega arith))
 
-    -- the search for it is in vain
-    pub passed-by : (placed′ exhausted′ : List ℕ) → X p ≡ true → Stuck reserved marks exhausted exhausted′ placed₀ placed′ p
-        → Down reserved marks X placed′ exhausted′ n (p + 1)
-    passed-by placed′ exhausted′ in-play s =
-        subst (λ (l : List ℕ). Down reserved marks X l exhausted′ n (p + 1)) (sym (s .same))
+    stuck : (placed′ exhausted′ : List ℕ) (more′ : Bool) → X p ≡ true → Stuck reserved marks exhausted exhausted′ placed₀ placed′ p → length exhausted′ ≡ 8
+        → (more′ ≡ false → AllExhausted (length reserved) exhausted′) → Down reserved marks X placed′ exhausted′ more′ n (p + 1)
+    stuck placed′ exhausted′ more′ in-play s types over =
+        subst (λ (l : List ℕ). Down reserved marks X l exhausted′ more′ n (p + 1)) (sym (s .same))
         record {
           placing = d .placing;
           each = λ q l. sameOr q p (λ e. rw e (left ∙ sym unplaced)) (λ o. d .each q (omega arith));
@@ -184,6 +190,8 @@ module _ (reserved marks : List ℕ) (X : ℕ → Bool) where
           number = omega (arith, count-more H p n 0 (d .number) (bit-false (H p) left));
           full = full;
           closed = closed;
+          types = types;
+          over = over;
         }
       where
         full : (t : ℕ) → 0 < getD exhausted′ t 0 → getD reserved t 0 ≤ atType placed₀ t
@@ -206,17 +214,37 @@ module _ (reserved marks : List ℕ) (X : ℕ → Bool) where
             away : (q t : ℕ) → p ≤ q → getD placed₀ q 0 ≡ suc t → ⊥
             away q t h e = omega (arith, d .rest q h)
 
-    -- where all types are exhausted nobody is placed
-    pub passed-full : AllExhausted (length reserved) exhausted → Down reserved marks X placed₀ exhausted n (p + 1)
-    passed-full all =
+    -- all types are exhausted
+    full-up : AllExhausted (length reserved) exhausted → Down reserved marks X placed₀ exhausted more n (p + 1)
+    full-up all =
         test (X p)
         (λ in-play.
-        passed-by placed₀ exhausted in-play
+        stuck placed₀ exhausted more in-play
         record {
           same = refl;
           more = λ t v. v;
           full = λ t v z. absurd (omega arith);
           closed = λ q t u v z. absurd (omega arith);
           own = λ u l h. all u l;
-        })
-        passed
+        }
+        (d .types) (d .over))
+        not-considered
+
+    -- what stands after the place, as the code leaves it: where all types are exhausted, ..
+    module _ {l e : List ℕ} {m : ℕ} {o : Bool} where
+      pub passed-full : more ≡ false → l ≡ placed₀ → e ≡ exhausted → o ≡ more → m ≡ n → Down reserved marks X l e o m (p + 1)
+      passed-full none el ee eo en = rw (el, ee, eo, en) (full-up (d .over none))
+
+      module _ {r : Bool} (said : r ≡ X p) where
+        -- .. where it is not considered, ..
+        pub passed : r ≡ false → l ≡ placed₀ → e ≡ exhausted → o ≡ more → m ≡ n → Down reserved marks X l e o m (p + 1)
+        passed out el ee eo en = rw (el, ee, eo, en) (not-considered (sym said ∙ out))
+
+        -- .. where it is placed, and where the search for it is in vain
+        module _ {placed′ exhausted′ : List ℕ} {b : Bool} (a : Attempted reserved marks exhausted exhausted′ placed₀ placed′ p b) (in-play : r ≡ true) where
+          pub placed-one : b ≡ true → l ≡ placed′ → e ≡ exhausted′ → o ≡ more → m ≡ n + 1 → Down reserved marks X l e o m (p + 1)
+          placed-one got el ee eo en = rw (el, ee, a .spared got, eo, en) (moved placed′ (sym said ∙ in-play) (a .found got))
+
+          pub passed-by : {more′ : Bool} → b ≡ false → length exhausted′ ≡ length exhausted → (more′ ≡ false → AllExhausted (length reserved) exhausted′) → l ≡ placed′ → e ≡ exhausted′ → o ≡ more′ → m ≡ n
+              → Down reserved marks X l e o m (p + 1)
+          passed-by {more′} none kept over el ee eo en = rw (el, ee, eo, en) (stuck placed′ exhausted′ more′ (sym said ∙ in-play) (a .stuck none) (kept ∙ d .types) over)

@@ -1,19 +1,19 @@
 -- Filling by merit, one place after the other: what is known at place p, and how it goes on in each case.
 use Prim.Native.Nat.{ℕ, _+_, _≤_, _<_, min}
-use mathlib.Core.Path.{_≡_, refl, sym, ap}
+use mathlib.Core.Path.{_≡_, refl, sym, ap, _∙_}
 use mathlib.Core.Bool.{Bool, true, false, cond, _&&_, and-false}
 use mathlib.Core.List.{List}
 use native.Mathlib.Omega.{arith}
 use lib.Dec.{eqb, ltb}
 use lib.ListN.{length, getD, set}
 use borrow.Author.Tests.{lt-ltb, le-ltb}
-use Rattle.round.specs.Lists.{count, bit}
+use Rattle.round.specs.Lists.{count, bit, tabulate}
 use Rattle.choice.specs.Use.{holds}
 use Rattle.choice.specs.Offers.{considersBy}
 use Rattle.choice.specs.Fill.{restAt, seatsAt}
 use Rattle.choice.proofs.Counting.{bit-true, bit-false}
 use Rattle.choice.proofs.Counts.{count-more}
-use Rattle.choice.proofs.Written.{Written, begin, write, keep}
+use Rattle.choice.proofs.Written.{Written, begin, write, keep, tabulated}
 
 -- what a place holds after the step
 abbrev pub seated : ℕ → ℕ → ℕ → List ℕ → List ℕ → List ℕ → ℕ → ℕ
@@ -32,13 +32,13 @@ module _ (number code free : ℕ) (offers placed given : List ℕ) where
   abbrev rest : ℕ → Bool
   rest = restAt placed X
 
-  -- .. said of what is the same
-  pub filled-by : {l l₁ : List ℕ} {v v₁ : ℕ} (p : ℕ) → l ≡ l₁ → v ≡ v₁ → Filled number code free offers placed given l₁ v₁ p
-      → Filled number code free offers placed given l v p
-  filled-by p el ev k = rw (el, ev) k
-
   pub none-filled : Filled number code free offers placed given given 0 0
   none-filled = record { number-filled = omega arith; written = begin given _ }
+
+  pub all-filled : {steps : List ℕ} {filled p : ℕ} → Filled number code free offers placed given steps filled p → p ≡ length given
+      → (steps ≡ tabulate (length given) (seated number code free offers placed given)) × (filled ≡ min free (count (length given) rest))
+  all-filled {p = p} k end =
+      (tabulated given _ _ p (k .written) (omega arith), k .number-filled ∙ ap (λ (n : ℕ). min free (count n rest)) end)
 
   module _ (steps : List ℕ) (filled p : ℕ) (inside : p < length given)
       (k : Filled number code free offers placed given steps filled p) where
@@ -46,14 +46,17 @@ module _ (number code free : ℕ) (offers placed given : List ℕ) where
     one-more b e = count-more rest p (count p rest) b refl e
 
     -- the test of the steps as they are is that of the steps given
-    pub considered : considersBy offers steps code p ≡ X p
+    considered : considersBy offers steps code p ≡ X p
     considered = ap (λ (x : ℕ). holds (getD offers p 0) code && eqb x 0) (k .written .above p (omega arith))
 
     -- it has a type
-    pub by-type : 0 < getD placed p 0 → Filled number code free offers placed given (set steps p number) filled (p + 1)
-    by-type l =
-        let typed : ltb 0 (getD placed p 0) ≡ true = lt-ltb 0 _ l in
+    pub by-type : {l : List ℕ} {v : ℕ} → (getD placed p 0 ≡ 0 → ⊥) → l ≡ set steps p number → v ≡ filled
+        → Filled number code free offers placed given l v (p + 1)
+    by-type some el ev =
+        let there : 0 < getD placed p 0 = omega (arith, some) in
+        let typed : ltb 0 (getD placed p 0) ≡ true = lt-ltb 0 _ there in
         let out : rest p ≡ false = rw typed (and-false (X p)) in
+        rw (el, ev)
         record {
           number-filled = omega (arith, k .number-filled, one-more 0 (bit-false (rest p) out));
           written = write given steps _ p number inside (k .written) (rw typed);
@@ -64,29 +67,36 @@ module _ (number code free : ℕ) (offers placed given : List ℕ) where
       untyped = le-ltb 0 (getD placed p 0) (omega arith)
 
       -- it gets a position by merit
-      pub by-merit : X p ≡ true → filled < free → Filled number code free offers placed given (set steps p number) (filled + 1) (p + 1)
-      by-merit in-play l =
+      pub by-merit : {l : List ℕ} {v : ℕ} {r : Bool} → filled < free → r ≡ considersBy offers steps code p → r ≡ true → l ≡ set steps p number → v ≡ filled + 1
+          → Filled number code free offers placed given l v (p + 1)
+      by-merit less test e el ev =
+          let in-play : X p ≡ true = sym considered ∙ sym test ∙ e in
           let left : rest p ≡ true = rw (untyped, in-play) in
           let room : ltb (count p rest) free ≡ true = lt-ltb (count p rest) free (omega (arith, k .number-filled)) in
+          rw (el, ev)
           record {
             number-filled = omega (arith, k .number-filled, one-more 1 (bit-true (rest p) left));
             written = write given steps _ p number inside (k .written) (rw (untyped, in-play, room));
           }
 
       -- it is not considered
-      pub left-out : X p ≡ false → Filled number code free offers placed given steps filled (p + 1)
-      left-out out =
+      pub left-out : {l : List ℕ} {v : ℕ} {r : Bool} → r ≡ considersBy offers steps code p → r ≡ false → l ≡ steps → v ≡ filled
+          → Filled number code free offers placed given l v (p + 1)
+      left-out test e el ev =
+          let out : X p ≡ false = sym considered ∙ sym test ∙ e in
           let gone : rest p ≡ false = rw out in
+          rw (el, ev)
           record {
             number-filled = omega (arith, k .number-filled, one-more 0 (bit-false (rest p) gone));
             written = keep given steps _ p (k .written) (rw (untyped, out));
           }
 
       -- no position is free
-      pub no-room : free ≤ filled → Filled number code free offers placed given steps filled (p + 1)
-      no-room z =
+      pub no-room : {l : List ℕ} {v : ℕ} → free ≤ filled → l ≡ steps → v ≡ filled → Filled number code free offers placed given l v (p + 1)
+      no-room z el ev =
           let full : ltb (count p rest) free ≡ false = le-ltb (count p rest) free (omega (arith, k .number-filled)) in
           let nobody : seatsAt placed X free p ≡ false = rw (untyped, full) (and-false (X p && true)) in
+          rw (el, ev)
           record {
             number-filled = omega (arith, k .number-filled, one-more (bit (rest p)) refl);
             written = keep given steps _ p (k .written) (sym (ap (λ (b : Bool). cond b number (getD given p 0)) nobody));

@@ -6,28 +6,54 @@ use mathlib.Core.List.{List, _++_}
 use native.Mathlib.Omega.{arith}
 use lib.Dec.{ltb}
 use lib.ListN.{length, getD, take, drop, replicate, length-replicate}
-use lib.Seq.{take-at, length-take-le}
+use lib.Seq.{take-at, length-take-le, length-front}
 use borrow.Author.Tests.{lt-ltb, le-ltb}
 use Rattle.round.specs.Lists.{count, bit}
 use Rattle.round.specs.declared.entry.Category.{Category}
 use Rattle.round.specs.declared.entry.Category.the-variants.{Open, SC, ST, OBC, EWS}
 use Rattle.round.specs.Category.{codeOf}
 use Rattle.choice.specs.Step.{takenForUse, remaining, takenByMerit, taken}
+use Rattle.choice.specs.Offers.{Places}
 use Rattle.choice.specs.Taken.{Took}
 use Rattle.choice.specs.Fill.{restAt, fillsAt, seatsAt, numbered, stepGiven, stepVacant}
 use Rattle.choice.proofs.Counting.{lessOr, count-ext}
 use Rattle.choice.proofs.Tabulate.{tabulate-cong}
 
 -- a part of a list of the same
-pub take-replicate : (k n : ℕ) → k ≤ n → take k (replicate n zero) ≡ replicate k zero
+take-replicate : (k n : ℕ) → k ≤ n → take k (replicate n zero) ≡ replicate k zero
 take-replicate zero zero h = refl
 take-replicate zero (suc n) h = refl
 take-replicate (suc k) zero h = absurd (omega arith)
 take-replicate (suc k) (suc n) h = rw (take-replicate k n (omega arith))
 
+-- a list of zeros has its length
+pub sized : (n : ℕ) {l : List ℕ} → l ≡ replicate n zero → length l ≡ n
+sized n e = ap length e ∙ length-replicate n zero
+
 -- the front of a list, after it was lent and has come back
 pub front-back : (d e : List ℕ) (n : ℕ) → n ≤ length d → length e ≡ length (take n d) → take n (e ++ drop n d) ≡ e
 front-back d e n h len = take-at e (drop n d) n (len ∙ length-take-le n d h)
+
+-- a table of zeros with more than n, before its front is lent and when it has come back
+module _ {n : ℕ} {table : List ℕ} (few : n ≤ 512) (zeros : table ≡ replicate 512 0) where
+  pub room : n ≤ length table
+  room = omega (arith, sized 512 zeros)
+
+  pub front-each : length (take n table) ≡ n
+  front-each = length-take-le n table room
+
+  pub front-zero : take n table ≡ replicate n 0
+  front-zero = ap (take n) zeros ∙ take-replicate n 512 few
+
+  module _ (front : List ℕ) (kept : length front ≡ length (take n table)) where
+    pub room-back : n ≤ length (front ++ drop n table)
+    room-back = omega (arith, length-front table front n kept, room)
+
+    pub types-back : take n (front ++ drop n table) ≡ front
+    types-back = front-back table front n room kept
+
+    pub each-back : (m : ℕ) → m ≡ n → length (take n (front ++ drop n table)) ≡ m
+    each-back m e = ap length types-back ∙ kept ∙ front-each ∙ sym e
 
 numbered-same : (n number : ℕ) (X Y : ℕ → Bool) (given : List ℕ) → ((q : ℕ) → q < n → X q ≡ Y q) → numbered n number X given ≡ numbered n number Y given
 numbered-same n number X Y given h =
@@ -107,18 +133,14 @@ module _ (reserved marks placed : List ℕ) (X : ℕ → Bool) (positions used :
       merit = unfold takenByMerit in left-same (remaining reserved marks X) (count n H) positions n .1
 
 -- what filling says of the types and the positions left is what the step says
-pub step-done : (reserved marks placed placed′ given steps : List ℕ) (X : ℕ → Bool) (number positions used free filled vacant : ℕ)
-    → Took reserved marks placed X used → placed′ ≡ placed → length given ≡ length marks → free ≡ positions - used
-    → steps ≡ numbered (length given) number (seatsAt placed′ X free) given → filled ≡ min free (count (length given) (restAt placed′ X)) → vacant ≡ free - filled
+pub step-done : {reserved marks offers placed placed′ given steps : List ℕ} {X : ℕ → Bool} (number positions : ℕ) {used free filled vacant : ℕ}
+    → Places marks offers given → Took reserved marks placed X used → placed′ ≡ placed → free ≡ positions - used
+    → (steps ≡ numbered (length given) number (seatsAt placed′ X free) given) × (filled ≡ min free (count (length given) (restAt placed′ X))) → vacant ≡ free - filled
     → (steps ≡ stepGiven number reserved marks X positions given) × (vacant ≡ stepVacant reserved marks X positions)
-step-done reserved marks placed placed′ given steps X number positions used free filled vacant k same len left s f v = (
-  rw (same, len, left) at s ∙ numbered-same (length marks) number _ _ given (seats-same reserved marks placed X positions used k),
-  vacant-same reserved marks placed X positions used k free filled vacant left (rw (same, len) at f) v,
+step-done {reserved} {marks} {placed = placed} {given = given} {X = X} number positions {used} {free} {filled} {vacant} p k same left f v = (
+  rw (same, p .steps-each, left) at (f .0) ∙ numbered-same (length marks) number _ _ given (seats-same reserved marks placed X positions used k),
+  vacant-same reserved marks placed X positions used k free filled vacant left (rw (same, p .steps-each) at (f .1)) v,
 )
-
--- a list of zeros has its length
-pub sized : (n : ℕ) {l : List ℕ} → l ≡ replicate n zero → length l ≡ n
-sized n e = ap length e ∙ length-replicate n zero
 
 pub code-small : (x : Category) → codeOf x ≤ 4
 code-small Open = omega arith

@@ -62,7 +62,7 @@ abbrev pub unvisited : List ℕ → ℕ
 unvisited visited = count (length visited) (λ t. eqb (getD visited t 0) 0)
 
 -- the test of a type that is tried
-pub tried-test : (m t v : ℕ) {r : Bool} → r ≡ (holds m t && eqb v 0) → r ≡ true → (holds m t ≡ true) × (v ≡ 0)
+tried-test : (m t v : ℕ) {r : Bool} → r ≡ (holds m t && eqb v 0) → r ≡ true → (holds m t ≡ true) × (v ≡ 0)
 tried-test m t v e y =
     (and-fst (holds m t) (eqb v 0) (sym e ∙ y), eqb-true v 0 (and-snd (holds m t) (eqb v 0) (sym e ∙ y)))
 
@@ -77,12 +77,12 @@ module _ (reserved marks placed : List ℕ) where
   }
 
   -- c does not hold type t, or it is visited
-  pub skip : (visited₀ visited : List ℕ) (c t : ℕ) → Tried reserved marks placed visited₀ visited c t
-      → (holds (getD marks c 0) t && eqb (getD visited t 0) 0) ≡ false → Tried reserved marks placed visited₀ visited c (t + 1)
-  skip visited₀ visited c t k not-both = record {
+  pub skip : {visited₀ visited l v : List ℕ} {c t : ℕ} {r : Bool} → Tried reserved marks placed visited₀ visited c t
+      → r ≡ (holds (getD marks c 0) t && eqb (getD visited t 0) 0) → r ≡ false → l ≡ placed → v ≡ visited → Tried reserved marks l visited₀ v c (t + 1)
+  skip {visited = visited} {c = c} {t = t} k test none el ev = rw (el, ev) record {
     grown = k .grown;
     own = λ u l held.
-        sameOr u t (λ e. rw e (seen (second (holds (getD marks c 0) t) _ (rw e at held) not-both))) (λ n. k .own u (omega arith) held);
+        sameOr u t (λ e. rw e (seen (second (holds (getD marks c 0) t) _ (rw e at held) (sym test ∙ none)))) (λ n. k .own u (omega arith) held);
   }
     where
       second : (a b : Bool) → a ≡ true → (a && b) ≡ false → b ≡ false
@@ -93,9 +93,9 @@ module _ (reserved marks placed : List ℕ) where
       seen e = lessOr 0 (getD visited t 0) (λ l. l) (λ z. absurd (eqb-false (getD visited t 0) 0 e (omega arith)))
 
   -- every type was tried
-  pub done : (visited₀ visited : List ℕ) (c t : ℕ) → length reserved ≤ t → Tried reserved marks placed visited₀ visited c t
+  pub done : {visited₀ visited : List ℕ} {c t : ℕ} → Tried reserved marks placed visited₀ visited c t → length reserved ≤ t
       → Stuck reserved marks visited₀ visited placed placed c
-  done visited₀ visited c t all k = record {
+  done k all = record {
     same = refl;
     more = k .grown .more;
     full = k .grown .full;
@@ -113,18 +113,20 @@ module _ (reserved marks placed : List ℕ) where
       lost u l z = omega arith
 
   -- the holder at place h is at another type
-  pub pass : (visited₁ visited : List ℕ) (t h : ℕ) → Asked reserved marks placed visited₁ visited t h
-      → (getD placed h 0 ≡ suc t → ⊥) → Asked reserved marks placed visited₁ visited t (h + 1)
-  pass visited₁ visited t h a n = record {
+  pub pass : {visited₁ visited v before : List ℕ} {t h byte : ℕ} → Asked reserved marks placed visited₁ visited t h → before ≡ placed
+      → byte ≡ getD before h 0 → (byte ≡ t + 1 → ⊥) → v ≡ visited → Asked reserved marks placed visited₁ v t (h + 1)
+  pass {t = t} {h = h} a was reads other ev = rw ev record {
     grown = a .grown;
-    asked = λ p w l e. sameOr p h (λ q. absurd (n (rw q at e))) (λ q. a .asked p w (omega arith) e);
+    asked = λ p w l e. sameOr p h (λ q. absurd (there (rw q at e))) (λ q. a .asked p w (omega arith) e);
   }
+    where
+      there : getD placed h 0 ≡ suc t → ⊥
+      there e = other (omega (arith, ap (λ (l : List ℕ). getD l h 0) was))
 
   -- the search for the holder at place h fails
-  pub fail : (visited₁ visited visited′ before after : List ℕ) (t h : ℕ) → before ≡ placed
-      → Asked reserved marks placed visited₁ visited t h → Stuck reserved marks visited visited′ before after h
-      → Asked reserved marks placed visited₁ visited′ t (h + 1)
-  fail visited₁ visited visited′ before after t h was a stuck = record {
+  pub fail : {visited₁ visited visited′ v before after : List ℕ} {t h : ℕ} → Asked reserved marks placed visited₁ visited t h → before ≡ placed
+      → Stuck reserved marks visited visited′ before after h → v ≡ visited′ → Asked reserved marks placed visited₁ v t (h + 1)
+  fail {visited₁} {visited} {visited′} {after = after} {h = h} a was stuck ev = rw ev record {
     grown = join visited₁ visited visited′ (a .grown) record { more = s .more; full = s .full; closed = s .closed };
     asked = λ p w l e b held.
         sameOr p h (λ q. s .own w b (rw q at held)) (λ q. s .more w (a .asked p w (omega arith) e b held));
@@ -134,14 +136,22 @@ module _ (reserved marks placed : List ℕ) where
       s = subst (λ (l : List ℕ). Stuck reserved marks visited visited′ l after h) was stuck
 
   -- type t is held by c and not visited
-  module _ (visited₀ visited : List ℕ) (c t : ℕ) (k : Tried reserved marks placed visited₀ visited c t)
-      (sized : t < length visited) (below : t < length reserved) (held : holds (getD marks c 0) t ≡ true)
-      (free : getD visited t 0 ≡ 0) where
+  module _ {visited₀ visited : List ℕ} {c t : ℕ} {r : Bool} (k : Tried reserved marks placed visited₀ visited c t) (types : length visited ≡ 8)
+      (few : length reserved ≤ 8) (below : t < length reserved) (test : r ≡ (holds (getD marks c 0) t && eqb (getD visited t 0) 0)) (tries : r ≡ true) where
+    sized : t < length visited
+    sized = omega arith
+
+    held : holds (getD marks c 0) t ≡ true
+    held = tried-test (getD marks c 0) t (getD visited t 0) test tries .0
+
+    free : getD visited t 0 ≡ 0
+    free = tried-test (getD marks c 0) t (getD visited t 0) test tries .1
+
     unseen : getD visited₀ t 0 ≡ 0
     unseen = lessOr 0 (getD visited₀ t 0) (λ l. absurd (seen (k .grown .more t l))) (λ z. omega arith)
       where
         seen : 0 < getD visited t 0 → ⊥
-        seen l = omega arith
+        seen l = omega (arith, free)
 
     -- it has a position left
     pub clear : Placing reserved marks placed → atType placed t < getD reserved t 0
@@ -159,7 +169,7 @@ module _ (reserved marks placed : List ℕ) where
     }
 
     -- it is visited now, and its holders are asked
-    module _ (visited′ : List ℕ) (h : ℕ) (a : Asked reserved marks placed (set visited t 1) visited′ t h) where
+    module _ {visited′ : List ℕ} {h : ℕ} (a : Asked reserved marks placed (set visited t 1) visited′ t h) where
       here : 0 < getD visited′ t 0
       here = a .grown .more t (rw (getD-set-same visited t 1 0 sized) (omega arith))
 
@@ -167,9 +177,9 @@ module _ (reserved marks placed : List ℕ) where
       since u v = sameOr u t (λ e. rw e here) (λ n. a .grown .more u (rw (getD-set-other visited t u 1 0 n) v))
 
       -- fewer types are unvisited
-      pub fewer : length visited₀ ≡ length visited → length visited′ ≡ length visited → unvisited visited′ < unvisited visited₀
-      fewer len₀ len′ =
-          rw (len′, len₀)
+      pub fewer : length visited₀ ≡ 8 → length visited′ ≡ 8 → unvisited visited′ < unvisited visited₀
+      fewer types₀ types′ =
+          rw (types′ ∙ sym types, types₀ ∙ sym types)
           (count-less (length visited) t (λ u. eqb (getD visited′ u 0) 0) (λ u. eqb (getD visited₀ u 0) 0) sized before
           (ne-eqb (getD visited′ t 0) 0 (λ e. omega (arith, here)))
           (eq-eqb _ _ unseen))
@@ -182,9 +192,9 @@ module _ (reserved marks placed : List ℕ) where
               lost v = omega (arith, eqb-true (getD visited′ u 0) 0 e)
 
       -- the holder at place h has moved
-      pub cleared : (before after : List ℕ) → before ≡ placed → h < length placed → Placing reserved marks placed
-          → getD before h 0 ≡ suc t → Moved reserved marks visited′ before after h → Cleared reserved marks visited₀ placed after c t
-      cleared before after was inside placing at-type moved = record {
+      pub cleared : {before after : List ℕ} {byte : ℕ} → before ≡ placed → h < length placed → Placing reserved marks placed
+          → byte ≡ getD before h 0 → byte ≡ t + 1 → Moved reserved marks visited′ before after h → Cleared reserved marks visited₀ placed after c t
+      cleared {before} {after} was inside placing reads at-type moved = record {
         fresh = unseen;
         below = below;
         held = held;
@@ -197,7 +207,7 @@ module _ (reserved marks placed : List ℕ) where
       }
         where
           at : getD placed h 0 ≡ suc t
-          at = subst (λ (l : List ℕ). getD l h 0 ≡ suc t) was at-type
+          at = omega (arith, ap (λ (l : List ℕ). getD l h 0) was)
 
           place : {p : ℕ} → p ≡ h → getD placed p 0 ≡ getD placed h 0
           place q = ap (λ (i : ℕ). getD placed i 0) q
@@ -226,12 +236,13 @@ module _ (reserved marks placed : List ℕ) where
               omega (arith, ap (λ (i : ℕ). getD visited₀ i 0) type, unseen)
 
       -- it is full, and every holder was asked
-      pub finish : getD reserved t 0 ≤ atType placed t → length placed ≤ h → Tried reserved marks placed visited₀ visited′ c (t + 1)
-      finish none all = record {
+      pub finish : {l l₁ v : List ℕ} {n : ℕ} → n ≡ atType placed t → getD reserved t 0 ≤ n → length placed ≤ h → l ≡ l₁ → l₁ ≡ placed → v ≡ visited′
+          → Tried reserved marks l visited₀ v c (t + 1)
+      finish counts none all el el₁ ev = rw (el, el₁, ev) record {
         grown = record {
           more = λ u v. since u (k .grown .more u v);
           full = λ u v z.
-              sameOr u t (λ q. rw q none)
+              sameOr u t (λ q. rw (q, ← counts) none)
               (λ n. lessOr 0 (getD visited u 0) (λ l. k .grown .full u l z) (λ l. a .grown .full u v (not-marked u n (omega arith))));
           closed = λ p u w v z e l o.
               sameOr u t (λ q. a .asked p w (inside p u e) (rw q at e) l o)

@@ -1,20 +1,10 @@
 -- `choice::next_step` meets its contract: a step of the code is a step of the definition, and no number wraps. Assumes nothing.
-use Prim.Native.Nat.{ℕ, _+_, _*_, _≤_, _<_}
 use native.Mathlib.Omega.{arith}
-use lib.ListN.{length, getD, length-take}
-use Rattle.choice.proofs.Choosing.{handed-small, code-low, receiver-low, step-advances}
+use lib.ListN.{length-take}
+use Rattle.choice.proofs.Choosing.{code-low, receiver-low, receiver-fits, positions-fit, handed-fits, step-advances}
 use borrow.Author.Needs.{needs}
 use Rattle.choice.proofs.next_step.Statement.{statement}
 use Rattle.choice.proofs.next_step.Tie as tie
-
-abbrev start : tie.After-slice-known3 → tie.Start
-start r = r .before .before .before .before .before .before .before .before .before
-
-abbrev called : tie.After-step → tie.After-slice-known3
-called s = s .before .before .before
-
-low : (s : tie.Start) (j : ℕ) → getD (s .args .handed .now) j 0 ≤ 65535 * 4096
-low s = handed-small (s .args .k) (s .args .handed .now) (omega (arith, s .pre .0 .steps-most)) (s .pre .1 .0)
 
 add-at : tie.Need-add-at
 add-at c = search needs
@@ -56,9 +46,7 @@ slice-read-positions : tie.Need-slice-read-positions
 slice-read-positions c = search needs
 
 add-positions-3 : tie.Need-add-positions-3
-add-positions-3 c =
-    let s = start c in
-    omega (arith, low s (s .args .k + 1), s .pre .0 .own-most (s .args .k) (omega arith))
+add-positions-3 c = search positions-fit
 
 add-first : tie.Need-add-first
 add-first c = search needs
@@ -85,36 +73,22 @@ part-step-end : tie.Need-part-step-end
 part-step-end c = search needs
 
 step-requires : tie.Need-step-requires
-step-requires c κs =
-    let s = start (c .before .before) in
-    ((simp length-take (omega (arith, s .pre .0 .types-most)), code-low (s .args .types) (s .args .k) (s .args .rules .now) (s .args .handed .now) (s .pre .0) (s .pre .1 .0)), s .pre .1 .1)
+step-requires c κs = ((simp length-take (omega arith), search code-low), search needs)
 
 mul-handed : tie.Need-mul-handed
-mul-handed c =
-    let s = start (called (c .before .before)) in
-    omega (arith, s .pre .0 .handed-on (s .args .k) (omega arith))
-
--- the receiver of the row's vacancies
-received : (s : tie.Start) → getD (s .args .rules .now) (s .args .k * (3 + s .args .types) + 1) 0 < length (s .args .handed .now)
-received s = receiver-low (s .args .types) (s .args .k) (s .args .rules .now) (s .args .handed .now) (s .pre .0) (s .pre .1 .0)
+mul-handed c = search receiver-fits
 
 slice-read-handed : tie.Need-slice-read-handed
-slice-read-handed c = let stepped = c .before .before .before in received (start (called stepped))
+slice-read-handed c = search receiver-low
 
 add-handed : tie.Need-add-handed
 add-handed c =
-    let stepped = c .before .before .before in
-    let s = start (called stepped) in
-    omega (
-      arith,
-      low s (s .args .k + 1),
-      low s (getD (s .args .rules .now) (s .args .k * (3 + s .args .types) + 1) 0),
-      s .pre .0 .own-most (s .args .k) (omega arith),
-      stepped .step .ensures .1,
-    )
+    let start : tie.Start = search needs in
+    let stepped : tie.After-step = search needs in
+    handed-fits (start .pre .0) (start .pre .1 .0) (omega (arith, stepped .step .ensures .1))
 
 slice-write-handed : tie.Need-slice-write-handed
-slice-write-handed c = let stepped = c .before .before .before in received (start (called stepped))
+slice-write-handed c = search receiver-low
 
 same-length : tie.Need-same-length
 same-length c = search needs
@@ -124,10 +98,10 @@ same-length-2 c = search needs
 
 returns : tie.Need-returns
 returns c =
-    let stepped = c .before .before .before in
-    let s = start (called stepped) in
-    step-advances (s .args .types) (s .args .k) (s .args .rules .now) (s .args .handed .now) (s .pre .0) (s .pre .1 .0)
-    (s .args .marks .now) (s .args .offers .now) (s .args .steps .now) _ _ (stepped .step .ensures)
+    let start : tie.Start = search needs in
+    let stepped : tie.After-step = search needs in
+    let a = start .args in
+    step-advances (start .pre .0) (start .pre .1 .0) (a .marks .now) (a .offers .now) (a .steps .now) (stepped .step .ensures)
 
 pub next-step-spec : {M : Type 1} → statement M
 next-step-spec =

@@ -4,7 +4,6 @@ use mathlib.Core.Path.{_≡_, sym, _∙_, ap}
 use mathlib.Core.List.{List}
 use native.Mathlib.Omega.{arith}
 use lib.ListN.{length, take, replicate}
-use lib.Seq.{length-take-le}
 use Rattle.round.specs.declared.head.Head.{Head as CodeHead}
 use Rattle.round.specs.Records.{Head, headOf}
 use Rattle.round.specs.Reading.{roundOf}
@@ -13,7 +12,7 @@ use Rattle.round.specs.Sound.{Sound, SoundInstitute}
 use Rattle.round.specs.Outcome.{CandidateStarts}
 use Rattle.round.specs.Access.{CandidateKnown, MeritKnown}
 use Rattle.round.proofs.Sound.{length-candidates, length-institutes, sound}
-use Rattle.choice.proofs.Steps.{take-replicate, sized}
+use Rattle.choice.proofs.Steps.{sized, room, front-each, front-zero}
 use Rattle.offers.specs.Process.{candidateCount, instituteCount}
 use Rattle.offers.specs.Held.{AtHand}
 use Rattle.offers.proofs.Rounds.Bounds.{merit-short}
@@ -60,7 +59,7 @@ module _ {file : List ℕ} {h : CodeHead} {candidates merits : List ℕ} (at : A
   pub round-sound : Sound (headOf file .types) (roundOf file)
   round-sound = sound file (at .passing)
 
-  candidates-few : h .candidates ≤ 512
+  pub candidates-few : h .candidates ≤ 512
   candidates-few = omega (arith, candidates-many, round-sound .candidates-most)
 
   pub institutes-few : h .institutes ≤ 32
@@ -72,13 +71,13 @@ module _ {file : List ℕ} {h : CodeHead} {candidates merits : List ℕ} (at : A
   -- a table of zeros has a place for each candidate
   module _ {table : List ℕ} (e : table ≡ replicate 512 0) where
     pub places : h .candidates ≤ length table
-    places = omega (arith, candidates-few, sized 512 e)
+    places = room candidates-few e
 
     pub places-many : length (take (h .candidates) table) ≡ h .candidates
-    places-many = length-take-le (h .candidates) table places
+    places-many = front-each candidates-few e
 
     pub places-zero : take (h .candidates) table ≡ replicate (h .candidates) 0
-    places-zero = ap (λ (t : List ℕ). take (h .candidates) t) e ∙ take-replicate (h .candidates) 512 candidates-few
+    places-zero = front-zero candidates-few e
 
 -- as many as the round's candidates, as the head has them
 pub head-many : (file : List ℕ) (n : ℕ) → n ≡ candidateCount (roundOf file) → n ≡ headOf file .candidates

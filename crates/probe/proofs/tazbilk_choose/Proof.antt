@@ -10,12 +10,15 @@ use Rattle.probe.proofs.Fitting.{fitted, rules-chosen, steps-chosen, st
 use Rattle.probe.proofs.tazbilk_choose.Statement.{statement}
 use Rattle.probe.proofs.tazbilk_choose.Tie as tie
 
+abbrev tested : tie.After-rule-table → tie.After-fits2
+tested m = m .before .before
+
 abbrev start : tie.After-rule-table → tie.Start
-start m = m .before .before .before .before .before .before .before
+start m = tested m .before .before .before .before .before
 
 fit : (m : tie.After-rule-table) → let a = start m .args in
     fitting (a .types) (length (a .body .now)) (length (a .marks .now)) (length (a .offers .now)) (length (a .steps .now)) ≡ true
-fit m = let test = m .before in sym (test .before .fits2 .ensures) ∙ test .if1 .taken
+fit m = sym (tested m .fits2 .ensures) ∙ m .before .if1 .taken
 
 fits-requires : tie.Need-fits-requires
 fits-requires c κs = search needs
@@ -37,7 +40,7 @@ slice-aggregate-choose c = search needs
 
 choose-requires : tie.Need-choose-requires
 choose-requires c κs =
-    let read = c .before .before .before in
+    let read : tie.After-rules-of = search needs in
     let m = read .before .before in
     let a = start m .args in
     (read .rules-of .ensures .table-of, fitted (a .body .now) (a .types) (a .policy) (a .marks .now) (a .offers .now) (a .steps .now) (fit m) .1)
@@ -47,11 +50,10 @@ same-length c = search needs
 
 returns : tie.Need-returns
 returns c =
-    let chosen = c .before .before in
-    let read = chosen .before .before .before .before in
+    let read : tie.After-rules-of = search needs in
     let m = read .before .before in
     let a = start m .args in
-    chosen .choose .ensures
+    c .before .before .choose .ensures
     ∙ rules-chosen (a .body .now) (a .types) (a .policy) (a .marks .now) (a .offers .now) (a .steps .now) _ _ (read .rules-of .ensures)
     ∙ sym (steps-chosen (a .body .now) (a .types) (a .policy) (a .marks .now) (a .offers .now) (a .steps .now) (fit m))
 

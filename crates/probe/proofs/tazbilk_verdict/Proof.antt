@@ -42,13 +42,13 @@ element-write-result-4 c = search needs
 
 returns : tie.Need-returns
 returns c =
-    let read = c .before .before .before .before .read-round in
-    ap (verdictIn _) (ap verdictOf (sym (c .enum-told .given .1)) ∙ read .ensures .answer)
+    let read : tie.After-read-round = search needs in
+    ap (verdictIn _) (ap verdictOf (sym (c .enum-told .given .1)) ∙ read .read-round .ensures .answer)
 
 returns-2 : tie.Need-returns-2
 returns-2 c =
-    let read = c .before .before .before .before .before .read-round in
-    ap (verdictIn _) (ap verdictOf (sym (c .before .got .given .1)) ∙ read .ensures .answer)
+    let read : tie.After-read-round = search needs in
+    ap (verdictIn _) (ap verdictOf (sym (c .before .got .given .1)) ∙ read .read-round .ensures .answer)
 
 pub tazbilk-verdict-spec : {M : Type 1} → statement M
 tazbilk-verdict-spec =

@@ -2,28 +2,25 @@
 -- Assumes nothing.
 use borrow.Author.Needs.{needs}
 use native.Mathlib.Omega.{arith}
-use Rattle.allotment.proofs.Calling.{few, places, places-many, answer-fits, answer-small, work-small, all-well}
+use Rattle.offers.proofs.Sweeps.Known.{candidates-few, institutes-few, places, places-many}
+use Rattle.allotment.proofs.Calling.{answer-fits, answer-small, work-small, all-well}
 use Rattle.allotment.proofs.call.allot_round.Statement.{statement}
 use Rattle.allotment.proofs.call.allot_round.Tie as tie
 
--- the function's start, from its first test
-abbrev start : tie.After-slice-known2 → tie.Start
-start c = c .before .before .before .before .before
-
 mul-if1 : tie.Need-mul-if1
-mul-if1 c = omega (arith, few (start c .pre))
+mul-if1 c = omega (arith, candidates-few)
 
 mul-if1-2 : tie.Need-mul-if1-2
-mul-if1-2 c = omega (arith, few (start c .pre))
+mul-if1-2 c = omega (arith, institutes-few)
 
 add-if1 : tie.Need-add-if1
-add-if1 c = omega (arith, few (start c .pre))
+add-if1 c = let start : tie.Start = search needs in omega (arith, candidates-few (start .pre), institutes-few (start .pre))
 
 returns : tie.Need-returns
 returns c = search (needs, answer-small)
 
 mul-if2 : tie.Need-mul-if2
-mul-if2 c = omega (arith, few (start (c .before) .pre))
+mul-if2 c = omega (arith, candidates-few)
 
 returns-2 : tie.Need-returns-2
 returns-2 c = search (needs, work-small)

@@ -1,7 +1,7 @@
 -- `choice::placing::placed_at` meets its contract: the loop keeps the count of the places passed. Assumes nothing.
 use Prim.Native.Nat.{ℕ, suc, _+_, _≤_, _-_}
-use mathlib.Core.Path.{_≡_, refl, sym}
-use mathlib.Core.Bool.{Bool}
+use mathlib.Core.Path.{_≡_, refl, sym, _∙_}
+use mathlib.Core.Bool.{Bool, true, false}
 use Rattle.choice.proofs.Counting.{bit-true, bit-false}
 use Rattle.choice.proofs.Counts.{count-more}
 use mathlib.Core.Logic.{⊎-elim}
@@ -20,6 +20,24 @@ Inv-loop placed t n₀ p₀ p-end n p = (p ≤ length placed) × (p-end ≡ leng
 
 abbrev μ-loop : tie.MeasureT-loop
 μ-loop placed t n₀ p₀ p-end n p = length placed - p
+
+-- one more place, by the byte that was read there
+module _ (X : ℕ → Bool) (q n n′ : ℕ) (so-far : n ≡ count q X) where
+  counts : X q ≡ true → n′ ≡ n + 1 → n′ ≡ count (q + 1) X
+  counts e m = m ∙ count-more X q n 1 so-far (bit-true (X q) e)
+
+  counts-not : X q ≡ false → n′ ≡ n → n′ ≡ count (q + 1) X
+  counts-not e m = omega (arith, count-more X q n 0 so-far (bit-false (X q) e))
+
+  counted : q ≤ n′ → n′ ≤ q → n ≡ count n′ X
+  counted l m = reached (λ k. count k X) l m (sym so-far)
+
+module _ (x t : ℕ) {byte : ℕ} (reads : byte ≡ x) where
+  is-type : byte ≡ t + 1 → eqb x (suc t) ≡ true
+  is-type e = eq-eqb x (suc t) (omega arith)
+
+  other-type : (byte ≡ t + 1 → ⊥) → eqb x (suc t) ≡ false
+  other-type d = ne-eqb x (suc t) (λ e. d (omega arith))
 
 loop-holds : tie.Need-loop-holds Inv-loop μ-loop
 loop-holds c = search needs
@@ -44,27 +62,11 @@ loop-less c = search needs
 
 loop-again : tie.Need-loop-again Inv-loop μ-loop
 loop-again c =
-    let l = c .before .before .before .before in
-    let q = l .loop .p in
-    let here = l .before .before .args in
-    let X : ℕ → Bool = λ i. eqb (getD (here .placed .now) i 0) (suc (here .t)) in
-    let n = l .loop .n in
-    let so-far : n ≡ count q X = l .loop .inv .3 in
-    let byte : c .before .wide .result ≡ getD (here .placed .now) q 0 = c .before .wide .ensures .0 in
-    ⊎-elim
-    (λ w.
-    let more : n + 1 ≡ count (q + 1) X = count-more X q n 1 so-far (bit-true (X q) (eq-eqb (getD (here .placed .now) q 0) (suc (here .t)) (omega (arith, w .0 .taken)))) in
-    (omega arith, refl, omega arith, omega arith))
-    (λ w.
-    let more : n + 0 ≡ count (q + 1) X = count-more X q n 0 so-far (bit-false (X q) (ne-eqb (getD (here .placed .now) q 0) (suc (here .t)) (λ e. w .0 .left (omega arith)))) in
-    (omega arith, refl, omega arith, omega arith))
+    ⊎-elim (λ w. (omega arith, refl, omega arith, search (counts, is-type))) (λ w. (omega arith, refl, omega arith, search (counts-not, other-type)))
     (c .if1 .came)
 
 returns : tie.Need-returns Inv-loop μ-loop
-returns c =
-    let l = c .before in
-    let a = l .before .before .args in
-    reached (λ k. count k (λ q. eqb (getD (a .placed .now) q 0) (suc (a .t)))) (l .loop .inv .0) (omega arith) (sym (l .loop .inv .3))
+returns c = search counted
 
 pub placed-at-spec : {M : Type 1} → statement M
 placed-at-spec =

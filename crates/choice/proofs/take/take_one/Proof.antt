@@ -29,10 +29,7 @@ same-length-2 : tie.Need-same-length-2
 same-length-2 c = search needs
 
 returns : tie.Need-returns
-returns c =
-    let placed = c .before .before .before .before in
-    let copied = placed .before .before .before .before in
-    attempted-found _ _ _ (placed .place .ensures) (copied .copy .ensures) (c .if1 .taken)
+returns c = search attempted-found
 
 same-length-3 : tie.Need-same-length-3
 same-length-3 c = search needs
@@ -41,11 +38,7 @@ same-length-4 : tie.Need-same-length-4
 same-length-4 c = search needs
 
 returns-2 : tie.Need-returns-2
-returns-2 c =
-    let test = c .before .before .before .before .before in
-    let placed = test .before .before .before .before in
-    let copied = placed .before .before .before .before in
-    attempted-stuck _ _ _ (placed .place .ensures) (copied .copy .ensures) (c .before .before .copy2 .ensures) (test .if1 .left)
+returns-2 c = search attempted-stuck
 
 pub take-one-spec : {M : Type 1} → statement M
 take-one-spec =

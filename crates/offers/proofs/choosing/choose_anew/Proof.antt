@@ -14,12 +14,21 @@ use borrow.Author.Needs.{needs}
 use Rattle.offers.proofs.choosing.choose_anew.Statement.{statement}
 use Rattle.offers.proofs.choosing.choose_anew.Tie as tie
 
--- where the function begins, where the offers are listed, where the choice is prepared, and where it is made
+-- where the function begins, where its tables are made, where the offers are listed, where the rules are known, where the choice is prepared, and where it is made
+abbrev begun : tie.After-shared-slice-known5 → tie.Start
+begun c = c .before .before .before .before .before
+
+abbrev made : tie.After-gather → tie.After-zeros3
+made c = c .before .before .before .before .before
+
 abbrev start : tie.After-gather → tie.Start
-start c = c .before .before .before .before .before .before .before .before .before .before .before .before .before .before .before
+start c = begun (made c .before .before .before .before .before)
+
+abbrev ruled : tie.After-rules3 → tie.After-institute-body
+ruled c = c .before .before .before .before
 
 abbrev listed : tie.After-rules3 → tie.After-gather
-listed c = c .before .before .before .before .before .before .before .before
+listed c = ruled c .before .before .before .before
 
 abbrev ready : tie.After-chosen → tie.After-rules3
 ready c = c .before .before .before
@@ -42,7 +51,7 @@ module _ (c : tie.After-gather) where
   offers = c .gather .last .1 .1 .1 .1 .1 .1 .1 .1 .0
 
   abbrev chosen : List ℕ
-  chosen = let made = c .before .before .before .before .before in made .zeros3 .result
+  chosen = made c .zeros3 .result
 
   few : k ≤ 512
   few = search listed-few
@@ -172,10 +181,10 @@ returns : tie.Need-returns
 returns c =
     let done = c .before .before in
     let at = chose (done .before .before) in
-    let rules = ready (at .before) .before .before in
+    let prepared = ready (at .before) in
     let pre = start (g at) .pre in
     chosen-anew (pre .0) (pre .1 .0) _ _ (g at .gather .ensures) (who-fits (g at)) (marks-fits (g at)) (found-back at ∙ at .choose .ensures)
-    (rules .rules-of .ensures .rules-of ∙ rules .before .before .institute-body .ensures .steps-of) (done .scatter .ensures)
+    (prepared .before .before .rules-of .ensures .rules-of ∙ ruled prepared .institute-body .ensures .steps-of) (done .scatter .ensures)
 
 pub choose-anew-spec : {M : Type 1} → statement M
 choose-anew-spec =

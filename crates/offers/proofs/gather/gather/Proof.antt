@@ -19,14 +19,17 @@ Inv-loop file candidates merits j asked wanted who₀ marks₀ offers₀ count n
 abbrev μ-loop : tie.MeasureT-loop
 μ-loop file candidates merits j asked wanted who₀ marks₀ offers₀ count number k₀ p₀ who marks offers k p = count - p
 
--- where the function begins
-abbrev start : tie.In-loop Inv-loop μ-loop → tie.Start Inv-loop μ-loop
-start c = c .before .before .before .before .before .before .before .before .before .before .before
+-- where the function begins, seen from where its tables are known and from the loop
+abbrev start : tie.After-shared-slice-known5 Inv-loop μ-loop → tie.Start Inv-loop μ-loop
+start k = k .before .before .before .before .before
+
+abbrev begun : tie.At-loop Inv-loop μ-loop → tie.Start Inv-loop μ-loop
+begun l = start (l .before .before .before .before .before)
 
 -- the candidate at the place is one of the round
 candidate : (c : tie.After-merit-place Inv-loop μ-loop)
-    → CandidateKnown (now (start (c .before) .args .file)) (now (start (c .before) .args .candidates)) (c .merit-place .result - 1)
-candidate c = let pre = start (c .before) .pre in candidate-known (pre .0) (omega arith) (c .merit-place .ensures) (pre .1 .0)
+    → CandidateKnown (now (begun (c .before .before) .args .file)) (now (begun (c .before .before) .args .candidates)) (c .merit-place .result - 1)
+candidate c = let pre = begun (c .before .before) .pre in candidate-known (pre .0) (omega arith) (c .merit-place .ensures) (pre .1 .0)
 
 merit-length-requires : tie.Need-merit-length-requires Inv-loop μ-loop
 merit-length-requires c κs = search needs
@@ -41,7 +44,7 @@ merit-place-requires : tie.Need-merit-place-requires Inv-loop μ-loop
 merit-place-requires c κs = (search needs, omega arith)
 
 sub-c : tie.Need-sub-c Inv-loop μ-loop
-sub-c c = number-least (start (c .before) .pre .0) (omega arith) (c .merit-place .ensures)
+sub-c c = number-least (begun (c .before .before) .pre .0) (omega arith) (c .merit-place .ensures)
 
 offer-to-requires : tie.Need-offer-to-requires Inv-loop μ-loop
 offer-to-requires c κs = (omega (arith, candidate c .below), omega (arith, candidate c .below))
@@ -76,7 +79,7 @@ loop-less c = search needs
 loop-again : tie.Need-loop-again Inv-loop μ-loop
 loop-again c =
     let turn = c .before .before in
-    let pre = start (turn .before) .pre in (
+    let pre = begun (turn .before .before) .pre in (
       omega arith,
       ⊎-elim
           (λ w.

@@ -27,7 +27,7 @@ may-try-requires c κs = (record { accepted = search needs; table = search needs
 
 offer-next-requires : tie.Need-offer-next-requires Inv-loop μ-loop
 offer-next-requires c κs =
-    let tested = c .before .before .before .before in (
+    let tested : tie.Then1 Inv-loop μ-loop = search needs in (
       record { accepted = search needs; table = search needs; below = omega arith },
       (try-more _ _ _ _ (tested .before .may-try .ensures) (tested .if1 .taken), (omega arith, omega arith, omega arith, search needs)),
     )
@@ -43,12 +43,12 @@ loop-less c = search needs
 
 loop-again : tie.Need-loop-again Inv-loop μ-loop
 loop-again c =
-    let inv = c .before .before .before .before .loop .inv .2 in (
+    let l : tie.At-loop Inv-loop μ-loop = search needs in (
       omega arith,
       refl,
       ⊎-elim
           (λ w.
-          one-offered _ _ _ _ _ inv (c .before .may-try .ensures) (w .0 .taken) (omega arith) (omega arith) (omega arith) (w .5 .ensures)
+          one-offered _ _ _ _ _ (l .loop .inv .2) (c .before .may-try .ensures) (w .0 .taken) (omega arith) (omega arith) (omega arith) (w .5 .ensures)
           (w .14) (w .15) (w .16) (w .17) (w .18))
           (λ w. search one-passed)
           (c .if1 .came),

@@ -32,15 +32,15 @@ slice-aggregate-sweep-all-2 c = search (needs, places-many)
 
 sweep-all-requires : tie.Need-sweep-all-requires
 sweep-all-requires c κs =
-    let both = c .before .before .before .before .before .before .before .before in
-    let first = both .before .before .before .before in
-    let start = first .before .before .before .before .before .before .before in
+    let start : tie.Start = search needs in
+    let first : tie.After-clear = search needs in
+    let second : tie.After-clear2 = search needs in
     let n = start .args .h .candidates in (
       search needs,
       (
         search places-zero,
         cleared n _ _ (first .clear .ensures) (omega (arith, start .pre)),
-        cleared n _ _ (both .clear2 .ensures) (omega (arith, start .pre)),
+        cleared n _ _ (second .clear2 .ensures) (omega (arith, start .pre)),
         search places-many,
       ),
     )

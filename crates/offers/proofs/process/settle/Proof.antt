@@ -36,7 +36,7 @@ loop-less c = search needs
 
 loop-again : tie.Need-loop-again Inv-loop μ-loop
 loop-again c =
-    let at = c .before .before .before in (
+    let at : tie.At-loop Inv-loop μ-loop = search needs in (
       omega arith,
       refl,
       ⊎-elim (λ w. rw (w .1) (write _ _ _ _ _ (omega arith) (at .loop .inv .2) (rw (eq-eqb _ 0 (w .0 .taken)))))

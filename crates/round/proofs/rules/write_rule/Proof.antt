@@ -15,6 +15,13 @@ Inv-loop body types code receiver table₀ at t₀ table t = (t ≤ types) × Ro
 abbrev μ-loop : tie.MeasureT-loop
 μ-loop body types code receiver table₀ at t₀ table t = types - t
 
+-- where the function begins, seen from its first write and from the loop
+abbrev start : tie.After-slice-known Inv-loop μ-loop → tie.Start Inv-loop μ-loop
+start c = c .before .before
+
+abbrev begun : tie.At-loop Inv-loop μ-loop → tie.Start Inv-loop μ-loop
+begun l = start (l .before .before)
+
 -- the row starts low in the table
 low : (s : tie.Start Inv-loop μ-loop) → s .args .code * (3 + s .args .types) ≤ 5 * 11
 low s = row-start (s .args .types) (s .args .code) 5 (s .pre .0 .types-most) (omega (arith, s .pre .1 .0))
@@ -23,34 +30,34 @@ add-at : tie.Need-add-at Inv-loop μ-loop
 add-at c = search needs
 
 mul-at : tie.Need-mul-at Inv-loop μ-loop
-mul-at c = omega (arith, low (c .before .before))
+mul-at c = omega (arith, low (start c))
 
 mul-table : tie.Need-mul-table Inv-loop μ-loop
-mul-table c = omega (arith, low (c .before .before))
+mul-table c = omega (arith, low (start c))
 
 slice-write-table : tie.Need-slice-write-table Inv-loop μ-loop
-slice-write-table c = omega (arith, low (c .before .before))
+slice-write-table c = omega (arith, low (start c))
 
 add-table : tie.Need-add-table Inv-loop μ-loop
-add-table c = omega (arith, low (c .before .before))
+add-table c = omega (arith, low (start c))
 
 mul-table-2 : tie.Need-mul-table-2 Inv-loop μ-loop
-mul-table-2 c = omega (arith, low (c .before .before))
+mul-table-2 c = omega (arith, low (start c))
 
 slice-write-table-2 : tie.Need-slice-write-table-2 Inv-loop μ-loop
-slice-write-table-2 c = simp length-set (omega (arith, low (c .before .before)))
+slice-write-table-2 c = simp length-set (omega (arith, low (start c)))
 
 positions-in-requires : tie.Need-positions-in-requires Inv-loop μ-loop
 positions-in-requires c κs = search needs
 
 add-table-2 : tie.Need-add-table-2 Inv-loop μ-loop
-add-table-2 c = let start = c .before .before .before in omega (arith, low start)
+add-table-2 c = omega (arith, low (start (c .before)))
 
 mul-table-3 : tie.Need-mul-table-3 Inv-loop μ-loop
-mul-table-3 c = let start = c .before .before .before in omega (arith, low start)
+mul-table-3 c = omega (arith, low (start (c .before)))
 
 slice-write-table-3 : tie.Need-slice-write-table-3 Inv-loop μ-loop
-slice-write-table-3 c = let start = c .before .before .before in simp length-set (omega (arith, low start))
+slice-write-table-3 c = simp length-set (omega (arith, low (start (c .before))))
 
 loop-holds : tie.Need-loop-holds Inv-loop μ-loop
 loop-holds c = (omega arith, row-begin _ _ _)
@@ -59,18 +66,18 @@ reserved-in-requires : tie.Need-reserved-in-requires Inv-loop μ-loop
 reserved-in-requires c κs = search needs
 
 add-table-3 : tie.Need-add-table-3 Inv-loop μ-loop
-add-table-3 c = let start = c .before .before .before .before .before .before in omega (arith, low start)
+add-table-3 c = omega (arith, low (begun (c .before .before)))
 
 add-table-4 : tie.Need-add-table-4 Inv-loop μ-loop
-add-table-4 c = let start = c .before .before .before .before .before .before in omega (arith, low start)
+add-table-4 c = omega (arith, low (begun (c .before .before)))
 
 mul-table-4 : tie.Need-mul-table-4 Inv-loop μ-loop
-mul-table-4 c = let start = c .before .before .before .before .before .before in omega (arith, low start)
+mul-table-4 c = omega (arith, low (begun (c .before .before)))
 
 slice-write-table-4 : tie.Need-slice-write-table-4 Inv-loop μ-loop
 slice-write-table-4 c =
-    let start = c .before .before .before .before .before .before in
-    omega (arith, simp length-set at (c .before .before .loop .inv .1 .sized), start .pre .1 .1)
+    let l = c .before .before in
+    omega (arith, simp length-set at (l .loop .inv .1 .sized), begun l .pre .1 .1)
 
 add-t : tie.Need-add-t Inv-loop μ-loop
 add-t c = search needs
@@ -80,18 +87,18 @@ loop-less c = search needs
 
 loop-again : tie.Need-loop-again Inv-loop μ-loop
 loop-again c =
-    let start = c .before .before .before .before .before .before in
-    (omega arith, row-write _ _ _ _ _ _ (c .before .before .loop .inv .1) (simp length-set (omega (arith, start .pre .1 .1))) (c .reserved-in .ensures .0))
+    let l = c .before .before in
+    (omega arith, row-write _ _ _ _ _ _ (l .loop .inv .1) (simp length-set (omega (arith, begun l .pre .1 .1))) (c .reserved-in .ensures .0))
 
 same-length : tie.Need-same-length Inv-loop μ-loop
 same-length c = simp length-set at (c .before .loop .inv .1 .sized)
 
 returns : tie.Need-returns Inv-loop μ-loop
 returns c =
-    let start = c .before .before .before .before .before in
-    let a = start .args in
-    rule-row (a .types) (a .body .now) (a .code) (a .receiver) _ (c .before .loop .t) (a .table .now) _ (omega arith) (omega (arith, start .pre .1 .1))
-    (c .before .before .positions-in .ensures .0) (omega (arith, c .before .before .positions-in .ensures .1)) (c .before .loop .inv .1)
+    let l = c .before in
+    let own = l .before .positions-in .ensures in
+    let a = begun l .args in
+    rule-row (a .types) (a .body .now) (a .code) (a .receiver) _ (l .loop .t) (a .table .now) _ (omega arith) (omega (arith, begun l .pre .1 .1)) (own .0) (omega (arith, own .1)) (l .loop .inv .1)
 
 pub write-rule-spec : {M : Type 1} → statement M
 write-rule-spec =
