@@ -8,14 +8,14 @@ use Rattle.round.specs.Records.{startOf}
 use Rattle.round.specs.Questions.{questionsAt}
 use Rattle.round.specs.Refusal.{verdict, verdictFrom}
 use Rattle.round.specs.Reading.{stepIn, dereserved, stepsIn, entryIn, candidateIn, instituteFrom, roundOf}
-use Rattle.round.specs.Lists.{greatest}
+use Rattle.round.specs.Lists.{greatest, joined}
 use Rattle.choice.specs.Use.{holds, oneLess, useOf}
 use Rattle.choice.specs.Step.{raises, takenBefore, takenForUse, remaining, takenByMerit, taken}
 use Rattle.choice.specs.Choice.{considers, positionsAt, takenAt, vacantAt, advance, advanceAll, nothingDone, choose}
 use Rattle.offers.specs.Rows.{rankIn}
 use Rattle.offers.specs.Offers.{placeOn, stepsOn}
 use Rattle.offers.specs.Process.{madeTo, chosen, seatBy, seatsAfter, mayOffer, turn, turns, tried, offersMade, seats}
-use Rattle.allotment.specs.Areas.{joined, wordBytes, closingPlace, closingBytes, answerBytes}
+use Rattle.allotment.specs.Areas.{wordBytes, closingPlace, closingBytes, answerBytes}
 use Rattle.allotment.specs.Outcome.{Outcome, allotted, refused, outcome, answerAfter, workAfter}
 
 abbrev pub Bytes : Type 0

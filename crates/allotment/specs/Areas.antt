@@ -4,16 +4,11 @@ use mathlib.Core.Bool.{Bool, cond, _&&_}
 use mathlib.Core.List.{List, [], _∷_, _++_}
 use lib.Dec.{eqb}
 use lib.ListN.{length, getD}
-use Rattle.round.specs.Lists.{tabulate, greatest}
+use Rattle.round.specs.Lists.{tabulate, joined, greatest}
 use Rattle.round.specs.Round.{Round}
 use Rattle.round.specs.Places.{instituteAt}
 use Rattle.offers.specs.Offers.{candidateOn}
 use Rattle.offers.specs.Process.{Seat, noSeat, candidateCount, instituteCount, seats}
-
--- the lists, one after the other
-abbrev pub joined : List (List ℕ) → List ℕ
-joined [] = []
-joined (l ∷ ls) = l ++ joined ls
 
 -- a two-byte number, little-endian
 abbrev pub wordBytes : ℕ → List ℕ

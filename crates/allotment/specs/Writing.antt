@@ -4,7 +4,7 @@ use mathlib.Core.Path.{_≡_}
 use mathlib.Core.Bool.{cond}
 use mathlib.Core.List.{List}
 use lib.ListN.{length, getD}
-use Rattle.round.specs.Lists.{tabulate}
+use Rattle.round.specs.Lists.{tabulate, joined}
 use Rattle.round.specs.Round.{Round}
 use Rattle.round.specs.declared.head.Head.{Head as CodeHead}
 use Rattle.round.specs.Records.{headOf}
@@ -15,7 +15,7 @@ use Rattle.round.specs.Outcome.{MeritStarts}
 use Rattle.offers.specs.Offers.{candidateOn}
 use Rattle.offers.specs.Process.{Seat, noSeat, seats}
 use Rattle.offers.specs.Held.{HeldIn}
-use Rattle.allotment.specs.Areas.{joined, seatBytes, seatIs}
+use Rattle.allotment.specs.Areas.{seatBytes, seatIs}
 
 -- the seat that two arrays hold for candidate i
 abbrev pub seatHeld : List ℕ → List ℕ → ℕ → Seat

@@ -6,10 +6,10 @@ ghost use mathlib.Core.List.{_++_};
 ghost use Prim.Native.Nat.{_+_, _*_, _<_, _≤_};
 ghost use lib.ListN.{length, drop};
 ghost use lib.Seq.{sets};
-ghost use Rattle.round.specs.Lists.{tabulate};
+ghost use Rattle.round.specs.Lists.{tabulate, joined};
 ghost use Rattle.round.specs.Records.{headOf};
 ghost use Rattle.round.specs.Reading.{roundOf};
-ghost use Rattle.allotment.specs.Areas.{joined, wordBytes, closingBytes, answerBytes, answerSize};
+ghost use Rattle.allotment.specs.Areas.{wordBytes, closingBytes, answerBytes, answerSize};
 ghost use Rattle.allotment.specs.Writing.{seatsHeld, heldBytes, AnswerKnown, ClosingKnown};
 
 // A two-byte number, little-endian.

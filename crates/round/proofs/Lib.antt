@@ -1,4 +1,5 @@
 pub mod Words
+pub mod Joined
 pub mod Passed
 pub mod Answers
 pub mod Sound

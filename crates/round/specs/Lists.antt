@@ -1,7 +1,7 @@
 -- Words about lists and numbers that the definitions share.
 use Prim.Native.Nat.{ℕ, zero, suc, _+_, max}
 use mathlib.Core.Bool.{Bool, true, false, cond, not, _&&_, _||_}
-use mathlib.Core.List.{List, [], _∷_}
+use mathlib.Core.List.{List, [], _∷_, _++_}
 
 -- f i, f (i + 1), .., n in all
 abbrev pub tabulateFrom : {A : Type 0} → ℕ → ℕ → (ℕ → A) → List A
@@ -11,6 +11,11 @@ tabulateFrom i (suc n) f = f i ∷ tabulateFrom (suc i) n f
 -- f 0, f 1, .., f (n - 1)
 abbrev pub tabulate : {A : Type 0} → ℕ → (ℕ → A) → List A
 tabulate n f = tabulateFrom 0 n f
+
+-- the lists, one after the other
+abbrev pub joined : List (List ℕ) → List ℕ
+joined [] = []
+joined (l ∷ ls) = l ++ joined ls
 
 abbrev pub bit : Bool → ℕ
 bit true = 1

@@ -5,22 +5,23 @@ use mathlib.Core.List.{List, _++_}
 use native.Mathlib.Omega.{arith}
 use lib.ListN.{length, drop}
 use lib.Seq.{sets, ext-getD}
-use Rattle.round.specs.Lists.{tabulate}
+use Rattle.round.specs.Lists.{tabulate, joined}
 use Rattle.round.specs.Round.{Round}
 use Rattle.round.specs.declared.head.Head.{Head as CodeHead}
 use Rattle.round.specs.Records.{Head, headOf}
 use Rattle.round.specs.Reading.{roundOf}
 use Rattle.round.proofs.Words.{length-tabulate}
+use Rattle.round.proofs.Joined.{sets-append, sets-front}
 use Rattle.round.proofs.Sound.{length-candidates, length-institutes}
 use Rattle.offers.specs.Process.{Seat, noSeat, candidateCount, instituteCount, seats}
-use Rattle.allotment.specs.Areas.{joined, closingBytes, answerBytes, answerSize}
+use Rattle.allotment.specs.Areas.{closingBytes, answerBytes, answerSize}
 use Rattle.offers.specs.Held.{HeldIn}
 use Rattle.allotment.specs.Writing.{seatHeld, seatsHeld, heldBytes, AnswerKnown, ClosingKnown}
 use Rattle.offers.proofs.Rounds.Bounds.{list-length}
 use Rattle.allotment.proofs.Files.Pieces.{length-pieces}
 use Rattle.allotment.proofs.Files.AreaSeats.{length-answer}
 use Rattle.allotment.proofs.Files.Closing.{held-at}
-use Rattle.allotment.proofs.Files.Putting.{sets-append, sets-front, heldPieces}
+use Rattle.allotment.proofs.Files.Putting.{heldPieces}
 
 -- two arrays hold one list
 held-one : (list : List Seat) (holders steps : List ℕ) → HeldIn list holders steps → seatsHeld holders steps ≡ list

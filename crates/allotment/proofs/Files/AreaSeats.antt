@@ -5,11 +5,11 @@ use mathlib.Core.List.{List, _++_}
 use native.Mathlib.Omega.{arith}
 use lib.ListN.{length, getD, length-append, List·getD-append}
 use lib.Seq.{ext-getD}
-use Rattle.round.specs.Lists.{tabulate}
+use Rattle.round.specs.Lists.{tabulate, joined}
 use Rattle.round.specs.Round.{Round}
 use Rattle.round.proofs.Words.{length-tabulate, tabulate-at}
 use Rattle.offers.specs.Process.{Seat, noSeat, candidateCount, instituteCount, seats}
-use Rattle.allotment.specs.Areas.{joined, wordBytes, seatBytes, closingPlace, closingBytes, answerBytes, answerSize, seatIn, seatsIn}
+use Rattle.allotment.specs.Areas.{wordBytes, seatBytes, closingPlace, closingBytes, answerBytes, answerSize, seatIn, seatsIn}
 use Rattle.offers.proofs.Rounds.Bounds.{list-length}
 use Rattle.allotment.proofs.Files.Pieces.{length-pieces, getD-pieces}
 

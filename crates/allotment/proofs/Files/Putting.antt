@@ -1,41 +1,22 @@
 -- Pieces put into an area one after the other: all of them together are put in as one.
-use Prim.Native.Nat.{ℕ, zero, suc, _+_, _*_, _<_, _≤_}
+use Prim.Native.Nat.{ℕ, suc, _+_, _*_, _<_, _≤_}
 use mathlib.Core.Path.{_≡_, refl, sym, ap, _∙_}
-use mathlib.Core.List.{List, [], _∷_, _++_, append-assoc, append-nil}
+use mathlib.Core.List.{List}
 use native.Mathlib.Omega.{arith}
-use native.Mathlib.Nat.{add-zero, zero-add}
+use native.Mathlib.Nat.{zero-add}
 use native.Mathlib.Numerals.{add-one}
-use lib.ListN.{length, getD, set, drop}
-use lib.Seq.{sets, sets-eq}
-use Rattle.round.specs.Lists.{tabulate, tabulateFrom}
+use lib.ListN.{length, getD, set}
+use lib.Seq.{sets}
+use Rattle.round.specs.Lists.{tabulate, joined}
 use Rattle.round.specs.Round.{Round}
 use Rattle.round.proofs.Words.{reached}
+use Rattle.round.proofs.Joined.{sets-append, joined-more}
 use Rattle.offers.specs.Process.{Seat, noSeat}
-use Rattle.allotment.specs.Areas.{joined, seatBytes, wordBytes, closingPlace, closingBytes}
+use Rattle.allotment.specs.Areas.{seatBytes, wordBytes, closingPlace, closingBytes}
 use Rattle.allotment.specs.Writing.{seatHeld, seatsHeld, heldBytes}
 use Rattle.allotment.proofs.Files.Pieces.{length-pieces}
 use Rattle.allotment.proofs.Files.AreaSeats.{length-closing}
 use Rattle.allotment.proofs.Files.Closing.{held-at}
-
--- two runs of bytes, the second behind the first
-pub sets-append : (area : List ℕ) (at : ℕ) (xs ys : List ℕ) → sets (sets area at xs) (at + length xs) ys ≡ sets area at (xs ++ ys)
-sets-append area at [] ys = rw add-zero
-sets-append area at (x ∷ xs) ys =
-    let q : at + suc (length xs) ≡ suc at + length xs = omega arith in
-    rw q (sets-append (set area at x) (suc at) xs ys)
-
--- a run of bytes from the front
-pub sets-front : (area bytes : List ℕ) → length bytes ≤ length area → sets area 0 bytes ≡ bytes ++ drop (length bytes) area
-sets-front area bytes l = sets-eq bytes area 0 (omega arith) ∙ rw zero-add
-
-joined-from : (s n : ℕ) (f : ℕ → List ℕ) → joined (tabulateFrom s (suc n) f) ≡ joined (tabulateFrom s n f) ++ f (s + n)
-joined-from s zero f = rw add-zero (append-nil (f s))
-joined-from s (suc n) f =
-    let q : s + suc n ≡ suc s + n = omega arith in
-    rw (joined-from (suc s) n f, q) (sym (append-assoc (f s) _ _))
-
-joined-more : (n : ℕ) (f : ℕ → List ℕ) → joined (tabulate (suc n) f) ≡ joined (tabulate n f) ++ f n
-joined-more n f = joined-from 0 n f ∙ rw zero-add
 
 -- one piece more
 pieces-more : (w : ℕ) (f : ℕ → List ℕ) → ((i : ℕ) → length (f i) ≡ w) → (area : List ℕ) (at n : ℕ) {now : List ℕ}

@@ -6,9 +6,9 @@ use mathlib.Core.Path.{_≡_, refl}
 use native.Mathlib.Omega.{arith}
 use lib.ListN.{length}
 use lib.Seq.{sets}
-use Rattle.round.specs.Lists.{tabulate}
+use Rattle.round.specs.Lists.{tabulate, joined}
 use Rattle.round.specs.Reading.{roundOf}
-use Rattle.allotment.specs.Areas.{joined, closingBytes}
+use Rattle.allotment.specs.Areas.{closingBytes}
 use Rattle.allotment.specs.Writing.{seatsHeld}
 use Rattle.allotment.proofs.Files.Putting.{institute-put, institutes-put}
 use Rattle.allotment.proofs.areas.write_closings.Statement.{statement}

@@ -6,8 +6,7 @@ use mathlib.Core.Path.{_≡_, refl}
 use native.Mathlib.Omega.{arith}
 use lib.ListN.{length, length-set}
 use lib.Seq.{sets}
-use Rattle.round.specs.Lists.{tabulate}
-use Rattle.allotment.specs.Areas.{joined}
+use Rattle.round.specs.Lists.{tabulate, joined}
 use Rattle.allotment.proofs.Files.Putting.{heldPieces, seat-more, seats-put}
 use Rattle.allotment.proofs.areas.write_seats.Statement.{statement}
 use Rattle.allotment.proofs.areas.write_seats.Tie as tie
