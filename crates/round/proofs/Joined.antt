@@ -1,10 +1,10 @@
 -- Lists put one after the other, and runs of bytes stored one behind the other.
-use Prim.Native.Nat.{ℕ, zero, suc, _+_, _≤_}
+use Prim.Native.Nat.{ℕ, zero, suc, _+_, _*_, _<_, _≤_}
 use mathlib.Core.Path.{_≡_, sym, _∙_}
 use mathlib.Core.List.{List, [], _∷_, _++_, append-assoc, append-nil}
 use native.Mathlib.Omega.{arith}
-use native.Mathlib.Nat.{add-zero, zero-add}
-use lib.ListN.{length, set, drop}
+use native.Mathlib.Nat.{add-zero, zero-add, mul-suc}
+use lib.ListN.{length, set, drop, length-append}
 use lib.Seq.{sets, sets-eq}
 use Rattle.round.specs.Lists.{tabulate, tabulateFrom, joined}
 
@@ -28,3 +28,18 @@ joined-from s (suc n) f =
 -- one piece more
 pub joined-more : (n : ℕ) (f : ℕ → List ℕ) → joined (tabulate (suc n) f) ≡ joined (tabulate n f) ++ f n
 joined-more n f = joined-from 0 n f ∙ rw zero-add
+
+short-from : (w s n : ℕ) (f : ℕ → List ℕ) → ((i : ℕ) → i < s + n → length (f i) ≤ w) → length (joined (tabulateFrom s n f)) ≤ w * n
+short-from w s zero f h = omega arith
+short-from w s (suc n) f h =
+    omega (
+      arith,
+      length-append (f s) (joined (tabulateFrom (suc s) n f)),
+      h s (omega arith),
+      short-from w (suc s) n f (λ i l. h i (omega arith)),
+      mul-suc w n,
+    )
+
+-- pieces of at most one width
+pub joined-short : (w n : ℕ) (f : ℕ → List ℕ) → ((i : ℕ) → i < n → length (f i) ≤ w) → length (joined (tabulate n f)) ≤ w * n
+joined-short w n f h = short-from w 0 n f (λ i l. h i (omega arith))

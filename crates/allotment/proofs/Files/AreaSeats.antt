@@ -1,12 +1,15 @@
 -- The bytes that an accepted call puts into the answer area: how many they are, and what stands at each place.
-use Prim.Native.Nat.{ℕ, suc, _+_, _*_, _<_}
+use Prim.Native.Nat.{ℕ, suc, _+_, _*_, _/_, _%_, _<_}
 use mathlib.Core.Path.{_≡_, refl, sym, _∙_}
 use mathlib.Core.List.{List, _++_}
 use native.Mathlib.Omega.{arith}
+use native.Mathlib.Nat.{add-zero}
+use native.Mathlib.Numerals.{add-one}
 use lib.ListN.{length, getD, length-append, List·getD-append}
-use lib.Seq.{ext-getD}
+use lib.Seq.{ext-getD, getD-append-add}
 use Rattle.round.specs.Lists.{tabulate, joined}
 use Rattle.round.specs.Round.{Round}
+use Rattle.round.specs.Records.{word}
 use Rattle.round.proofs.Words.{length-tabulate, tabulate-at}
 use Rattle.offers.specs.Process.{Seat, noSeat, candidateCount, instituteCount, seats}
 use Rattle.allotment.specs.Areas.{wordBytes, seatBytes, closingPlace, closingBytes, answerBytes, answerSize, seatIn, seatsIn}
@@ -72,3 +75,26 @@ module _ (r : Round) where
       (λ i l.
       let m : i < candidateCount r = omega arith in
       tabulate-at (candidateCount r) (seatIn (answerBytes r ++ rest)) noSeat i m ∙ seat-stands rest i m)
+
+  -- byte b of the closing place of step k, from 0, at institute j
+  closing-byte : (j k b : ℕ) → j < instituteCount r → k < 6 → b < 2
+      → getD (answerBytes r) (2 * candidateCount r + 12 * j + 2 * k + b) 0 ≡ getD (wordBytes (closingPlace r (seats r) j (suc k))) b 0
+  unfolding closingPart closingBytes
+  closing-byte j k b l m o =
+      let at : 2 * candidateCount r + 12 * j + 2 * k + b ≡ length seatPart + (12 * j + (2 * k + b)) = omega (arith, length-seatPart) in
+      rw (answer-parts, at)
+      (getD-append-add seatPart closingPart (12 * j + (2 * k + b)) 0
+      ∙ (getD-pieces 12 (closingBytes r (seats r)) (length-closing (seats r)) (instituteCount r) j (2 * k + b) l (omega arith)
+      ∙ getD-pieces 2 (λ k. wordBytes (closingPlace r (seats r) j (suc k))) (λ k. refl) 6 k b m o))
+
+  -- the closing place that stands in an area that starts with the answer bytes
+  pub closing-stands : (rest : List ℕ) (j k : ℕ) → j < instituteCount r → k < 6 → closingPlace r (seats r) j (suc k) < 65536
+      → word (answerBytes r ++ rest) (2 * candidateCount r + 12 * j + 2 * k) ≡ closingPlace r (seats r) j (suc k)
+  closing-stands rest j k l m few =
+      let at : ℕ = 2 * candidateCount r + 12 * j + 2 * k in
+      let inside : at + 1 < length (answerBytes r) = omega (arith, length-answer) in
+      let first : getD (answerBytes r ++ rest) at 0 ≡ closingPlace r (seats r) j (suc k) % 256 =
+      List·getD-append (answerBytes r) rest 0 at (omega arith) ∙ (rw add-zero at (closing-byte j k 0 l m (omega arith))) in
+      let second : getD (answerBytes r ++ rest) (suc at) 0 ≡ closingPlace r (seats r) j (suc k) / 256 % 256 =
+      List·getD-append (answerBytes r) rest 0 (suc at) (omega arith) ∙ (rw add-one at (closing-byte j k 1 l m (omega arith))) in
+      omega arith

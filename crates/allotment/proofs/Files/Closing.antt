@@ -1,7 +1,7 @@
 -- A closing place as it is found by going down the merit list: the largest so far of the places that are seated at the step.
 use Prim.Native.Nat.{ℕ, suc, _+_, _-_, _<_, _≤_, max}
 use mathlib.Core.Path.{_≡_, refl, sym, ap, _∙_}
-use mathlib.Core.Bool.{Bool, true, false}
+use mathlib.Core.Bool.{Bool, true, false, cond}
 use mathlib.Core.List.{List}
 use native.Mathlib.Omega.{arith}
 use native.Mathlib.Numerals.{add-one}
@@ -16,6 +16,7 @@ use Rattle.round.specs.Places.{instituteAt, meritAt}
 use Rattle.round.specs.Sound.{SoundInstitute}
 use Rattle.round.proofs.Sound.{sound, length-candidates, length-institutes}
 use Rattle.round.proofs.Words.{tabulate-at, cond-yes, cond-no}
+use Rattle.choice.proofs.Counting.{greatest-below}
 use Rattle.offers.specs.Offers.{candidateOn}
 use Rattle.offers.specs.Process.{Seat, noSeat}
 use Rattle.allotment.specs.Areas.{seatIs, closingPlace}
@@ -43,6 +44,15 @@ module _ (r : Round) (list : List Seat) (j k : ℕ) where
   closing-done {count} {p} e l m f =
       let q : p ≡ length (instituteAt r j .merit) = omega arith in
       f ∙ ap (λ (n : ℕ). greatest n (seatedPlace r list j k)) q
+
+-- a closing place is no larger than the merit list is long
+pub closing-few : (r : Round) (list : List Seat) (j k : ℕ) → closingPlace r list j k ≤ length (instituteAt r j .merit)
+unfolding closingPlace
+closing-few r list j k = greatest-below (length (instituteAt r j .merit)) _ (length (instituteAt r j .merit)) (λ p l. place-few (seatIs _ (suc j) k) p l)
+  where
+    place-few : (b : Bool) (p : ℕ) → p < length (instituteAt r j .merit) → cond b (suc p) 0 ≤ length (instituteAt r j .merit)
+    place-few true p l = l
+    place-few false p l = omega arith
 
 -- the seat that two arrays hold for a candidate stands in the list that they hold
 pub held-at : (holders steps : List ℕ) (i : ℕ) → i < length holders → getD (seatsHeld holders steps) i noSeat ≡ seatHeld holders steps i

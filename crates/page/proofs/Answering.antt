@@ -1,0 +1,71 @@
+-- The page of an accepted file: its head is there, the page fits, and what is read off its answer area is the page of its round.
+use Prim.Native.Nat.{ℕ, _+_, _*_, _≤_}
+use mathlib.Core.Path.{_≡_, sym, ap, _∙_}
+use mathlib.Core.List.{List, _++_}
+use native.Mathlib.Omega.{arith}
+use lib.ListN.{length, getD, take, drop, length-append}
+use mir.Syntax.{w8, w64}
+use mir.Val as val
+use Rattle.round.specs.declared.head.Head.{Head as CodeHead}
+use Rattle.round.specs.Records.{Head, headIn, headOf, lengthAt, bodyAt}
+use Rattle.round.specs.Reading.{roundOf}
+use Rattle.round.specs.Read.{asHead, InRange}
+use Rattle.round.proofs.Answers as answers
+use Rattle.round.proofs.Passed.{passed}
+use Rattle.round.proofs.Sound.{sound, length-candidates, length-institutes}
+use Rattle.offers.specs.Process.{candidateCount, instituteCount}
+use Rattle.allotment.specs.Areas.{answerBytes}
+use Rattle.allotment.proofs.Files.AreaSeats.{length-answer}
+use Rattle.text.specs.Put.{Fits, Put}
+use Rattle.page.specs.Page.{page}
+use Rattle.page.specs.Reads.{pageIn, Answered}
+use Rattle.page.proofs.Stands.{page-stands}
+use Rattle.page.proofs.Short.{page-short}
+
+module _ {file : List ℕ} {offers : ℕ} {answer : List ℕ} (known : Answered file offers answer) where
+  lead : answers.LeadYes file (headOf file) 1 0
+  lead = answers.lead-yes file (headOf file) 1 0 (passed file (known .accepted) .head-yes)
+
+  head-length : lengthAt file 0 ≡ 8
+  head-length = answers.length-head (headOf file) (lengthAt file 0) (lead .allowed)
+
+  pub head-there : 12 ≤ length file
+  head-there = omega (arith, lead .body-there, head-length)
+
+  -- the numbers that stand in the head
+  module _ {h : CodeHead} (read : asHead h ≡ headIn (take 8 (drop 4 file))) where
+    same-head : asHead h ≡ headOf file
+    same-head = read ∙ ap (λ (n : ℕ). headIn (take n (drop 4 file))) (sym head-length)
+
+    range : InRange (asHead h)
+    range = rw same-head (answers.head-yes (bodyAt file 0) (lead .body-yes))
+
+    candidates-many : h .candidates ≡ candidateCount (roundOf file)
+    candidates-many = ap (λ (k : Head). k .candidates) same-head ∙ sym (length-candidates file)
+
+    institutes-many : h .institutes ≡ instituteCount (roundOf file)
+    institutes-many = ap (λ (k : Head). k .institutes) same-head ∙ sym (length-institutes file)
+
+    pub answer-there : 2 * h .candidates + 12 * h .institutes ≤ length answer
+    answer-there =
+        omega (
+          arith,
+          candidates-many,
+          institutes-many,
+          ap length (known .stands),
+          length-append (answerBytes (roundOf file)) (known .rest),
+          length-answer (roundOf file),
+        )
+
+    pub page-fits : {area : List ℕ} → 8192 ≤ length area → val.Fits w64 offers → ((i : ℕ) → val.Fits w8 (getD answer i 0))
+        → Fits area 0 (pageIn offers (h .candidates) (h .institutes) answer)
+    page-fits l few bytes = record { room = omega (arith, page-short answer (λ i. omega (arith, bytes i)) (range .candidates-most) (range .institutes-most) offers (omega arith)) }
+
+    page-read : pageIn offers (h .candidates) (h .institutes) answer ≡ page (roundOf file)
+    page-read =
+        rw (known .counted, candidates-many, institutes-many, known .stands)
+        (page-stands (roundOf file) (sound file (known .accepted)) (known .rest))
+
+    pub answered-put : {area now : List ℕ} {at behind : ℕ} → Put area at (pageIn offers (h .candidates) (h .institutes) answer) now behind
+        → Put area at (page (roundOf file)) now behind
+    answered-put p = rw page-read at p

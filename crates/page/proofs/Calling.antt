@@ -1,0 +1,77 @@
+-- The answer of a call with areas for the largest round, as what is printed: it is allotted where the file passes, and else refused as the file is.
+use Prim.Native.Nat.{ℕ, _*_, _+_, _≤_}
+use mathlib.Core.Path.{_≡_, refl, sym, ap, _∙_}
+use mathlib.Core.List.{List, _++_}
+use native.Mathlib.Omega.{arith}
+use lib.ListN.{length, drop}
+use mir.Syntax.{w64}
+use mir.Val as val
+use Rattle.round.specs.Reading.{roundOf}
+use Rattle.round.specs.Refusal.{Verdict, passes, verdict}
+use Rattle.round.specs.Refusal as Refusal
+use Rattle.round.proofs.Sound.{sound}
+use Rattle.offers.specs.Process.{offersMade}
+use Rattle.allotment.specs.declared.Answer.{Answer}
+use Rattle.allotment.specs.declared.Answer.the-variants.{Allotted, Refused}
+use Rattle.allotment.specs.Areas.{answerBytes, answerSize, workSize}
+use Rattle.allotment.specs.Outcome.{Outcome, allotted, refused, outcomeOf, outcome}
+use Rattle.allotment.specs.Promise.{Promise}
+use Rattle.allotment.proofs.Files.Accepting.{outcome-refused, outcome-allotted, answer-written}
+use Rattle.text.specs.Put.{Fits, Put}
+use Rattle.page.specs.Page.{refusedLine, page, printedBy, printed}
+use Rattle.page.specs.Reads.{Answered}
+use Rattle.page.proofs.Short.{refusal-short}
+
+-- a call with areas for the largest round
+module _ {file answer work answerNow workNow : List ℕ} {told : Answer}
+    (promise : Promise file answer work told answerNow workNow) (long : length answer ≡ 1408) (wide : length work ≡ 4096) where
+  abbrev here : Outcome
+  here = outcome file (length answer) (length work)
+
+  -- a file that passes is allotted
+  passing : verdict file ≡ passes → here ≡ allotted (offersMade (roundOf file))
+  passing e =
+      outcome-allotted file (length answer) (length work) e
+      (omega (arith, sound file e .candidates-most, sound file e .institutes-most)) (omega (arith, sound file e .candidates-most))
+
+  module _ {offers : ℕ} (allots : told ≡ Allotted offers) where
+    as-allotted : here ≡ allotted offers
+    as-allotted = sym (promise .answered) ∙ ap outcomeOf allots
+
+    passes-then : (v : Verdict) → verdict file ≡ v → verdict file ≡ passes
+    passes-then passes e = e
+    passes-then (Refusal.refused number offset) e = let z = outcome-refused file (length answer) (length work) number offset e in cc (z, as-allotted)
+
+    accepted : verdict file ≡ passes
+    accepted = passes-then (verdict file) refl
+
+    pub answered : Answered file offers answerNow
+    answered =
+        let same : _≡_ {A = Outcome} (allotted offers) (allotted (offersMade (roundOf file))) = sym as-allotted ∙ passing accepted in
+        record {
+          accepted = accepted;
+          counted = cc;
+          rest = drop (answerSize (roundOf file)) answer;
+          stands = promise .answerArea ∙ answer-written file answer work offers as-allotted;
+        }
+
+    pub printed-page : {area now : List ℕ} {at behind : ℕ} → Put area at (page (roundOf file)) now behind → Put area at (printed file) now behind
+    unfolding printed
+    printed-page p = rw accepted p
+
+  module _ {number offset : ℕ} (refuses : told ≡ Refused number offset) where
+    as-refused : here ≡ refused number offset
+    as-refused = sym (promise .answered) ∙ ap outcomeOf refuses
+
+    printed-refused : (v : Verdict) → verdict file ≡ v → printedBy v (roundOf file) ≡ refusedLine number offset
+    printed-refused passes e = let z = passing e in cc (z, as-refused)
+    printed-refused (Refusal.refused n o) e =
+        let z : _≡_ {A = Outcome} (refused n o) (refused number offset) = sym (outcome-refused file (length answer) (length work) n o e) ∙ as-refused in
+        cc
+
+    pub printed-line : {area now : List ℕ} {at behind : ℕ} → Put area at (refusedLine number offset) now behind → Put area at (printed file) now behind
+    unfolding printed
+    printed-line p = rw (printed-refused (verdict file) refl) p
+
+pub refusal-fits : {area : List ℕ} (number offset : ℕ) → 8192 ≤ length area → val.Fits w64 number → val.Fits w64 offset → Fits area 0 (refusedLine number offset)
+refusal-fits number offset l few small = record { room = omega (arith, refusal-short number offset (omega arith) (omega arith)) }

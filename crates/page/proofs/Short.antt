@@ -1,0 +1,86 @@
+-- A page has at most 8,192 bytes.
+use Prim.Native.Nat.{ℕ, zero, suc, _+_, _*_, _^_, _<_, _≤_}
+use mathlib.Core.Path.{_≡_, refl, ap}
+use mathlib.Core.List.{List, _++_}
+use native.Mathlib.Omega.{arith}
+use native.Mathlib.Nat.{mul-le-mul}
+use lib.ListN.{length, getD, length-append}
+use Rattle.round.specs.Lists.{tabulate, joined}
+use Rattle.round.specs.Records.{word}
+use Rattle.round.proofs.Joined.{joined-short}
+use Rattle.offers.specs.Process.{Seat}
+use Rattle.allotment.specs.Areas.{seatIn}
+use Rattle.text.specs.Ascii.{ascii}
+use Rattle.text.specs.Decimal.{decimal, nextNumber, named}
+use Rattle.text.proofs.Decimals.{decimal-short}
+use Rattle.page.specs.Page.{offersLine, seatLine, sixPlaces, closingLine, refusedLine}
+use Rattle.page.specs.Reads.{placeIn, seatLines, closingLines, pageIn}
+
+-- a number of 64 bits has at most 20 digits
+digits-20 : (n : ℕ) → n < 18446744073709551616 → length (decimal n) ≤ 20
+digits-20 n l = decimal-short 19 n (omega arith)
+
+pub offers-short : (offers : ℕ) → offers < 18446744073709551616 → length (offersLine offers) ≤ 28
+offers-short offers l = omega (arith, length-append (decimal offers) (ascii "\n"), digits-20 offers l)
+
+pub refusal-short : (number offset : ℕ) → number < 18446744073709551616 → offset < 18446744073709551616 → length (refusedLine number offset) ≤ 53
+refusal-short number offset l m =
+    omega (
+      arith,
+      length-append (named (ascii "refused") number ++ named (ascii " at") offset) (ascii "\n"),
+      length-append (named (ascii "refused") number) (named (ascii " at") offset),
+      digits-20 number l,
+      digits-20 offset m,
+    )
+
+seat-short : (candidate : ℕ) (s : Seat) → candidate < 1000 → s .institute < 256 → s .step < 256 → length (seatLine candidate s) ≤ 12
+seat-short candidate s l m o =
+    omega (
+      arith,
+      length-append (decimal candidate ++ nextNumber (s .institute) ++ nextNumber (s .step)) (ascii "\n"),
+      length-append (decimal candidate ++ nextNumber (s .institute)) (nextNumber (s .step)),
+      length-append (decimal candidate) (nextNumber (s .institute)),
+      decimal-short 2 candidate (omega arith),
+      decimal-short 2 (s .institute) (omega arith),
+      decimal-short 2 (s .step) (omega arith),
+    )
+
+-- an answer area holds bytes
+module _ (answer : List ℕ) (bytes : (i : ℕ) → getD answer i 0 < 256) where
+  places-short : (from : ℕ) → length (sixPlaces (placeIn answer from)) ≤ 36
+  unfolding sixPlaces
+  places-short from = joined-short 6 6 (λ k. nextNumber (placeIn answer from k)) (λ k l. place-short k)
+    where
+      place-short : (k : ℕ) → length (nextNumber (placeIn answer from k)) ≤ 6
+      place-short k = omega (arith, decimal-short 4 (placeIn answer from k) (omega (arith, bytes (from + 2 * k), bytes (suc (from + 2 * k)))))
+
+  closing-short : (institute from : ℕ) → institute < 100 → length (closingLine institute (placeIn answer from)) ≤ 47
+  closing-short institute from l =
+      omega (
+        arith,
+        length-append (named (ascii "closing") institute ++ sixPlaces (placeIn answer from)) (ascii "\n"),
+        length-append (named (ascii "closing") institute) (sixPlaces (placeIn answer from)),
+        decimal-short 1 institute (omega arith),
+        places-short from,
+      )
+
+  module _ {candidates institutes : ℕ} (n : candidates ≤ 512) (m : institutes ≤ 32) where
+    seats-short : length (seatLines answer candidates) ≤ 12 * candidates
+    unfolding seatLines seatIn
+    seats-short = joined-short 12 candidates (λ i. seatLine (i + 1) (seatIn answer i)) (λ i l. seat-short (i + 1) (seatIn answer i) (omega arith) (bytes (2 * i)) (bytes (2 * i + 1)))
+
+    closings-short : length (closingLines answer candidates institutes) ≤ 47 * institutes
+    unfolding closingLines
+    closings-short = joined-short 47 institutes (λ j. closingLine (j + 1) (placeIn answer (2 * candidates + 12 * j))) (λ j l. closing-short (j + 1) _ (omega arith))
+
+    pub page-short : (offers : ℕ) → offers < 18446744073709551616 → length (pageIn offers candidates institutes answer) ≤ 8192
+    unfolding pageIn
+    page-short offers l =
+        omega (
+          arith,
+          length-append (offersLine offers ++ seatLines answer candidates) (closingLines answer candidates institutes),
+          length-append (offersLine offers) (seatLines answer candidates),
+          offers-short offers l,
+          seats-short,
+          closings-short,
+        )

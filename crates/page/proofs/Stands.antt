@@ -1,0 +1,54 @@
+-- The page that is read off an answer area is the page of the round whose answer stands there.
+use Prim.Native.Nat.{ℕ, suc, _+_, _*_, _<_, _≤_}
+use mathlib.Core.Path.{_≡_, ap, ap₂}
+use mathlib.Core.List.{List, _++_}
+use native.Mathlib.Omega.{arith}
+use lib.ListN.{length, getD}
+use Rattle.round.specs.Lists.{tabulate, joined}
+use Rattle.round.specs.Records.{word}
+use Rattle.round.specs.Round.{Round}
+use Rattle.round.specs.Places.{instituteAt}
+use Rattle.round.specs.Sound.{Sound}
+use Rattle.choice.proofs.Tabulate.{tabulate-cong}
+use Rattle.offers.specs.Process.{Seat, noSeat, candidateCount, instituteCount, offersMade, seats}
+use Rattle.offers.proofs.Rounds.Bounds.{merit-short}
+use Rattle.allotment.specs.Areas.{closingPlace, answerBytes, seatIn}
+use Rattle.allotment.proofs.Files.AreaSeats.{seat-stands, closing-stands}
+use Rattle.allotment.proofs.Files.Closing.{closing-few}
+use Rattle.text.specs.Decimal.{nextNumber}
+use Rattle.page.specs.Page.{offersLine, seatLine, sixPlaces, closingLine, page}
+use Rattle.page.specs.Reads.{placeIn, seatLines, closingLines, pageIn}
+
+module _ {types : ℕ} (r : Round) (sound : Sound types r) (rest : List ℕ) where
+  abbrev answer : List ℕ
+  answer = answerBytes r ++ rest
+
+  seats-read : seatLines answer (candidateCount r) ≡ joined (tabulate (candidateCount r) (λ i. seatLine (i + 1) (getD (seats r) i noSeat)))
+  unfolding seatLines
+  seats-read =
+      ap joined (tabulate-cong (candidateCount r) (λ i. seatLine (i + 1) (seatIn answer i)) (λ i. seatLine (i + 1) (getD (seats r) i noSeat))
+      (λ i l. ap (seatLine (i + 1)) (seat-stands r rest i l)))
+
+  place-read : (j k : ℕ) → j < instituteCount r → k < 6 → placeIn answer (2 * candidateCount r + 12 * j) k ≡ closingPlace r (seats r) j (suc k)
+  place-read j k l m =
+      let few : closingPlace r (seats r) j (suc k) < 65536 =
+      omega (arith, closing-few r (seats r) j (suc k), merit-short r j (sound .institute j l), sound .candidates-most) in
+      closing-stands r rest j k l m few
+
+  places-read : (j : ℕ) → j < instituteCount r
+      → sixPlaces (placeIn answer (2 * candidateCount r + 12 * j)) ≡ sixPlaces (λ k. closingPlace r (seats r) j (suc k))
+  unfolding sixPlaces
+  places-read j l =
+      ap joined (tabulate-cong 6 (λ k. nextNumber (placeIn answer (2 * candidateCount r + 12 * j) k)) (λ k. nextNumber (closingPlace r (seats r) j (suc k)))
+      (λ k m. ap nextNumber (place-read j k l m)))
+
+  closings-read : closingLines answer (candidateCount r) (instituteCount r)
+      ≡ joined (tabulate (instituteCount r) (λ j. closingLine (j + 1) (λ k. closingPlace r (seats r) j (suc k))))
+  unfolding closingLines
+  closings-read =
+      ap joined (tabulate-cong (instituteCount r) (λ j. closingLine (j + 1) (placeIn answer (2 * candidateCount r + 12 * j)))
+      (λ j. closingLine (j + 1) (λ k. closingPlace r (seats r) j (suc k))) (λ j l. rw (places-read j l)))
+
+  pub page-stands : pageIn (offersMade r) (candidateCount r) (instituteCount r) answer ≡ page r
+  unfolding page pageIn
+  page-stands = ap₂ (λ (a b : List ℕ). offersLine (offersMade r) ++ a ++ b) seats-read closings-read

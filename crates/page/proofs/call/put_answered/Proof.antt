@@ -1,0 +1,43 @@
+-- The head is read again, and the page off the answer area.
+-- Assumes nothing.
+use borrow.Author.Needs.{needs}
+use Rattle.page.proofs.Answering.{head-there, answer-there, page-fits, answered-put}
+use Rattle.page.proofs.call.put_answered.Statement.{statement}
+use Rattle.page.proofs.call.put_answered.Tie as tie
+
+sub-head-in : tie.Need-sub-head-in
+sub-head-in c = search needs
+
+part-head-in-start : tie.Need-part-head-in-start
+part-head-in-start c = search needs
+
+part-head-in-end : tie.Need-part-head-in-end
+part-head-in-end c = search (needs, head-there)
+
+head-in-requires : tie.Need-head-in-requires
+head-in-requires c κs = search needs
+
+-- what is known of the answer area from the start
+abbrev begun : tie.After-put-allotment-arg → tie.After-shared-slice-known
+begun c = c .before .before .before .before
+
+put-allotment-requires : tie.Need-put-allotment-requires
+put-allotment-requires c κs = (search (needs, answer-there), search (needs, page-fits, begun c .shared-slice-known .given))
+
+same-length : tie.Need-same-length
+same-length c = search needs
+
+returns : tie.Need-returns
+returns c = search (needs, answered-put)
+
+pub put-answered-spec : {M : Type 1} → statement M
+put-answered-spec =
+    tie.close
+    (tie.spec
+    sub-head-in
+    part-head-in-start
+    part-head-in-end
+    head-in-requires
+    put-allotment-requires
+    same-length
+    returns)

@@ -1,0 +1,49 @@
+-- What the program prints for a round file, byte by byte (document 01, "Worked rounds").
+use Prim.Native.Nat.{ℕ, suc, _+_}
+use mathlib.Core.List.{List, _++_}
+use lib.ListN.{getD}
+use Rattle.round.specs.Lists.{tabulate, joined}
+use Rattle.round.specs.Round.{Round}
+use Rattle.round.specs.Reading.{roundOf}
+use Rattle.round.specs.Refusal.{Verdict, passes, refused, verdict}
+use Rattle.offers.specs.Process.{Seat, noSeat, candidateCount, instituteCount, offersMade, seats}
+use Rattle.allotment.specs.Areas.{closingPlace}
+use Rattle.text.specs.Ascii.{ascii}
+use Rattle.text.specs.Decimal.{decimal, nextNumber, named}
+
+-- the number of offers
+abbrev pub offersLine : ℕ → List ℕ
+offersLine offers = named (ascii "offers") offers ++ ascii "\n"
+
+-- candidate, institute, step
+abbrev pub seatLine : ℕ → Seat → List ℕ
+seatLine candidate s = decimal candidate ++ nextNumber (s .institute) ++ nextNumber (s .step) ++ ascii "\n"
+
+-- six closing places, each behind a space
+unfoldable pub sixPlaces : (ℕ → ℕ) → List ℕ
+sixPlaces place = joined (tabulate 6 (λ k. nextNumber (place k)))
+
+-- an institute's number and its six closing places
+abbrev pub closingLine : ℕ → (ℕ → ℕ) → List ℕ
+closingLine institute place = named (ascii "closing") institute ++ sixPlaces place ++ ascii "\n"
+
+-- the one line of a refusal
+abbrev pub refusedLine : ℕ → ℕ → List ℕ
+refusedLine number offset = named (ascii "refused") number ++ named (ascii " at") offset ++ ascii "\n"
+
+-- the page of a round's allotment: "First the offers; then candidate, institute, step; then for each institute its number and six closing
+-- places"
+unfoldable pub page : Round → List ℕ
+page r =
+    let list : List Seat = seats r in
+    offersLine (offersMade r)
+    ++ joined (tabulate (candidateCount r) (λ i. seatLine (i + 1) (getD list i noSeat)))
+    ++ joined (tabulate (instituteCount r) (λ j. closingLine (j + 1) (λ k. closingPlace r list j (suc k))))
+
+abbrev pub printedBy : Verdict → Round → List ℕ
+printedBy passes r = page r
+printedBy (refused number offset) r = refusedLine number offset
+
+-- what is printed for a file
+unfoldable pub printed : List ℕ → List ℕ
+printed file = printedBy (verdict file) (roundOf file)

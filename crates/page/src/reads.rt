@@ -1,0 +1,71 @@
+// The page of an allotment, read off its answer area.
+use crate::lines::put_closing;
+use crate::lines::put_offers;
+use crate::lines::put_seat;
+use round::word::wide;
+ghost use Prim.Native.Nat.{_+_, _*_, _≤_};
+ghost use lib.ListN.{length};
+ghost use Rattle.allotment.specs.Areas.{seatIn};
+ghost use Rattle.text.specs.Put.{Fits, Put};
+ghost use Rattle.page.specs.Page.{seatLine};
+ghost use Rattle.page.specs.Reads.{seatLines, closingLines, pageIn};
+
+// The seat of candidate i, from 0.
+fn put_seat_in(page: &mut [u8], at: usize, answer: &[u8], i: usize) -> usize
+    requires { ⌜ 2 * i + 2 ≤ length (now answer) ⌝ }
+    requires { ⌜ Fits (now page) at (seatLine (i + 1) (seatIn (now answer) i)) ⌝ }
+    ensures { λ r. ⌜ Put (now (page .entry)) at (seatLine (i + 1) (seatIn (now (answer .entry)) i)) (now (page .exit)) r ⌝ }
+{
+    let institute = wide(answer[2 * i]);
+    let step = wide(answer[2 * i + 1]);
+    put_seat(page, at, i + 1, institute, step)
+}
+
+// A line for each candidate.
+fn put_seats(page: &mut [u8], at: usize, candidates: usize, answer: &[u8]) -> usize
+    requires { ⌜ 2 * candidates ≤ length (now answer) ⌝ }
+    requires { ⌜ Fits (now page) at (seatLines (now answer) candidates) ⌝ }
+    ensures { λ r. ⌜ Put (now (page .entry)) at (seatLines (now (answer .entry)) candidates) (now (page .exit)) r ⌝ }
+{
+    let mut behind = at;
+    for i in 0..candidates {
+        behind = put_seat_in(page, behind, answer, i);
+    }
+    behind
+}
+
+// A line for each institute.
+fn put_closings(
+    page: &mut [u8],
+    at: usize,
+    candidates: usize,
+    institutes: usize,
+    answer: &[u8],
+) -> usize
+    requires { ⌜ 2 * candidates + 12 * institutes ≤ length (now answer) ⌝ }
+    requires { ⌜ Fits (now page) at (closingLines (now answer) candidates institutes) ⌝ }
+    ensures { λ r. ⌜ Put (now (page .entry)) at (closingLines (now (answer .entry)) candidates institutes) (now (page .exit)) r ⌝ }
+{
+    let mut behind = at;
+    for j in 0..institutes {
+        behind = put_closing(page, behind, j + 1, answer, 2 * candidates + 12 * j);
+    }
+    behind
+}
+
+// The offers, the seats, the closing places, from the front.
+pub fn put_allotment(
+    page: &mut [u8],
+    offers: usize,
+    candidates: usize,
+    institutes: usize,
+    answer: &[u8],
+) -> usize
+    requires { ⌜ 2 * candidates + 12 * institutes ≤ length (now answer) ⌝ }
+    requires { ⌜ Fits (now page) 0 (pageIn offers candidates institutes (now answer)) ⌝ }
+    ensures { λ r. ⌜ Put (now (page .entry)) 0 (pageIn offers candidates institutes (now (answer .entry))) (now (page .exit)) r ⌝ }
+{
+    let counted = put_offers(page, 0, offers);
+    let seated = put_seats(page, counted, candidates, answer);
+    put_closings(page, seated, candidates, institutes, answer)
+}
