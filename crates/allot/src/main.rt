@@ -1,39 +1,49 @@
-// The program: reads a round file from standard input and prints its allotment, or the refusal.
-use allotment::Answer;
+// The program: reads a round file from standard input and prints its page, or the line of its refusal.
+use libc::STDERR_FILENO;
 use libc::STDIN_FILENO;
+use libc::STDOUT_FILENO;
+use page::page_room;
+use page::put_page;
 ghost use mathlib.Core.Path.{_≡_};
 ghost use lib.ListN.{length};
+ghost use Rattle.page.specs.Page.{printed};
 
-// Room for as much of the input as decides any input: the longest lawful file and one byte more.
+// Room for as much of the input as decides what is printed: the longest lawful file and one byte more.
 fn input_room() -> [u8; 55373]
     ensures { λ r. ⌜ length r ≡ 55373 ⌝ }
 {
     [0; 55373]
 }
 
-// The answer area of the largest round.
-fn answer_room() -> [u8; 1408]
-    ensures { λ r. ⌜ length r ≡ 1408 ⌝ }
-{
-    [0; 1408]
+// One line on standard error.
+fn say(line: &[u8]) {
+    io::write_all(STDERR_FILENO, line);
 }
 
-// The work area of the largest round.
-fn work_room() -> [u8; 4096]
-    ensures { λ r. ⌜ length r ≡ 4096 ⌝ }
+// Whether standard input has ended: a read that fails, or that brings something more, tells that it has not.
+fn ended() -> bool {
+    let mut more = [0u8; 1];
+    libc::read(STDIN_FILENO, &mut more) == 0
+}
+
+// Hands what is printed for a file to standard output.
+fn hand_out(file: &[u8], text: &[u8]) -> bool
+    requires { ⌜ now text ≡ printed (now file) ⌝ }
 {
-    [0; 4096]
+    io::write_all(STDOUT_FILENO, text)
 }
 
 fn main() {
     let mut input = input_room();
-    let mut answer = answer_room();
-    let mut work = work_room();
     let size = io::read_full(STDIN_FILENO, &mut input);
+    if size < 55373 && !ended() {
+        say(b"allot: the input could not be read\n");
+        return;
+    }
+    let mut page = page_room();
     let file = &input[..size];
-    let got = allotment::allot(file, &mut answer, &mut work);
-    match got {
-        Answer::Allotted(offers) => lines::allotted(file, offers, &answer),
-        Answer::Refused { number, offset } => lines::refused(number, offset),
+    let length = put_page(&mut page, file);
+    if !hand_out(file, &page[..length]) {
+        say(b"allot: the page could not be written\n");
     }
 }

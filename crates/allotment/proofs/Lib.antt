@@ -1,3 +1,2 @@
-pub mod Starred
 pub mod Files
 pub mod Calling

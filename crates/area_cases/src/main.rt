@@ -1,9 +1,53 @@
 // File A with lent areas of several lengths, full of other bytes beforehand: what the call answers, and every byte of both areas
 // afterwards.
 use allotment::Answer;
+use libc::STDOUT_FILENO;
+use round::word::wide;
 ghost use mathlib.Core.Path.{_≡_};
 ghost use Prim.Native.Nat.{_≤_};
 ghost use lib.ListN.{length};
+
+// Some text, as it stands.
+fn text(bytes: &[u8]) {
+    io::write_all(STDOUT_FILENO, bytes);
+}
+
+// A space, then a number.
+fn next_number(n: usize) {
+    text(b" ");
+    io::print_decimal(STDOUT_FILENO, n as u64);
+}
+
+// What the call answers, on one line.
+fn answered(got: Answer) {
+    match got {
+        Answer::Allotted(offers) => {
+            text(b"offers");
+            next_number(offers);
+        }
+        Answer::Refused { number, offset } => {
+            text(b"refused");
+            next_number(number);
+            text(b" at");
+            next_number(offset);
+        }
+    }
+    text(b"\n");
+}
+
+// The numbers of some bytes, each behind a space.
+fn numbers(bytes: &[u8]) {
+    for i in 0..bytes.len() {
+        next_number(wide(bytes[i]));
+    }
+}
+
+// The bytes of an area, on one line.
+fn area(bytes: &[u8]) {
+    text(b"area");
+    numbers(bytes);
+    text(b"\n");
+}
 
 // An answer area with room to spare.
 fn answer_room() -> [u8; 24]
@@ -25,12 +69,9 @@ fn shown(file: &[u8], answer: &mut [u8], work: &mut [u8], answering: usize, work
     requires { ⌜ working ≤ length (now work) ⌝ }
 {
     let got = allotment::allot(file, &mut answer[..answering], &mut work[..working]);
-    match got {
-        Answer::Allotted(offers) => lines::allotted(file, offers, answer),
-        Answer::Refused { number, offset } => lines::refused(number, offset),
-    }
-    lines::area(answer);
-    lines::area(work);
+    answered(got);
+    area(answer);
+    area(work);
 }
 
 // Makes both rooms and shows a call with their first bytes.

@@ -16,7 +16,8 @@ use Rattle.round.proofs.Sound.{sound, length-candidates, length-institutes}
 use Rattle.offers.specs.Process.{candidateCount, instituteCount}
 use Rattle.allotment.specs.Areas.{answerBytes}
 use Rattle.allotment.proofs.Files.AreaSeats.{length-answer}
-use Rattle.text.specs.Put.{Fits, Put}
+use Rattle.text.specs.Put.{Fits, Put, Front}
+use Rattle.text.proofs.Putting.{front-put}
 use Rattle.page.specs.Page.{page}
 use Rattle.page.specs.Reads.{pageIn, Answered}
 use Rattle.page.proofs.Stands.{page-stands}
@@ -66,6 +67,6 @@ module _ {file : List ℕ} {offers : ℕ} {answer : List ℕ} (known : Answered 
         rw (known .counted, candidates-many, institutes-many, known .stands)
         (page-stands (roundOf file) (sound file (known .accepted)) (known .rest))
 
-    pub answered-put : {area now : List ℕ} {at behind : ℕ} → Put area at (pageIn offers (h .candidates) (h .institutes) answer) now behind
-        → Put area at (page (roundOf file)) now behind
-    answered-put p = rw page-read at p
+    pub answered-front : {area now : List ℕ} {size : ℕ} → 8192 ≤ length area → val.Fits w64 offers → ((i : ℕ) → val.Fits w8 (getD answer i 0))
+        → Put area 0 (pageIn offers (h .candidates) (h .institutes) answer) now size → Front area (page (roundOf file)) now size
+    answered-front l few bytes p = rw page-read at (front-put (page-fits l few bytes) p)

@@ -17,10 +17,14 @@ use Rattle.allotment.specs.Areas.{answerBytes, answerSize, workSize}
 use Rattle.allotment.specs.Outcome.{Outcome, allotted, refused, outcomeOf, outcome}
 use Rattle.allotment.specs.Promise.{Promise}
 use Rattle.allotment.proofs.Files.Accepting.{outcome-refused, outcome-allotted, answer-written}
-use Rattle.text.specs.Put.{Fits, Put}
+use Rattle.text.specs.Put.{Fits, Put, Front}
+use Rattle.text.proofs.Putting.{front-put}
 use Rattle.page.specs.Page.{refusedLine, page, printedBy, printed}
 use Rattle.page.specs.Reads.{Answered}
 use Rattle.page.proofs.Short.{refusal-short}
+
+pub refusal-fits : {area : List ℕ} (number offset : ℕ) → 8192 ≤ length area → val.Fits w64 number → val.Fits w64 offset → Fits area 0 (refusedLine number offset)
+refusal-fits number offset l few small = record { room = omega (arith, refusal-short number offset (omega arith) (omega arith)) }
 
 -- a call with areas for the largest round
 module _ {file answer work answerNow workNow : List ℕ} {told : Answer}
@@ -55,7 +59,7 @@ module _ {file answer work answerNow workNow : List ℕ} {told : Answer}
           stands = promise .answerArea ∙ answer-written file answer work offers as-allotted;
         }
 
-    pub printed-page : {area now : List ℕ} {at behind : ℕ} → Put area at (page (roundOf file)) now behind → Put area at (printed file) now behind
+    pub printed-page : {area now : List ℕ} {size : ℕ} → Front area (page (roundOf file)) now size → Front area (printed file) now size
     unfolding printed
     printed-page p = rw accepted p
 
@@ -69,9 +73,7 @@ module _ {file answer work answerNow workNow : List ℕ} {told : Answer}
         let z : _≡_ {A = Outcome} (refused n o) (refused number offset) = sym (outcome-refused file (length answer) (length work) n o e) ∙ as-refused in
         cc
 
-    pub printed-line : {area now : List ℕ} {at behind : ℕ} → Put area at (refusedLine number offset) now behind → Put area at (printed file) now behind
+    pub printed-line : {area now : List ℕ} {size : ℕ} → 8192 ≤ length area → val.Fits w64 number → val.Fits w64 offset
+        → Put area 0 (refusedLine number offset) now size → Front area (printed file) now size
     unfolding printed
-    printed-line p = rw (printed-refused (verdict file) refl) p
-
-pub refusal-fits : {area : List ℕ} (number offset : ℕ) → 8192 ≤ length area → val.Fits w64 number → val.Fits w64 offset → Fits area 0 (refusedLine number offset)
-refusal-fits number offset l few small = record { room = omega (arith, refusal-short number offset (omega arith) (omega arith)) }
+    printed-line l few small p = rw (printed-refused (verdict file) refl) (front-put (refusal-fits number offset l few small) p)

@@ -5,3 +5,4 @@ pub mod Short
 pub mod Answering
 pub mod Calling
 pub mod Whole
+pub mod Starred

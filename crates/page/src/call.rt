@@ -5,11 +5,10 @@ use allotment::Answer;
 use allotment::allot;
 use round::head::head_in;
 ghost use mathlib.Core.Path.{_≡_};
-ghost use mathlib.Core.List.{List, _++_};
 ghost use Prim.Native.Nat.{_≤_};
 ghost use lib.ListN.{length};
 ghost use Rattle.round.specs.Reading.{roundOf};
-ghost use Rattle.text.specs.Put.{Put};
+ghost use Rattle.text.specs.Put.{Front};
 ghost use Rattle.page.specs.Page.{page as Page·page, printed};
 ghost use Rattle.page.specs.Reads.{Answered};
 
@@ -27,11 +26,18 @@ fn work_room() -> [u8; 4096]
     [0; 4096]
 }
 
+// Room for the longest page.
+pub fn page_room() -> [u8; 8192]
+    ensures { λ r. ⌜ length r ≡ 8192 ⌝ }
+{
+    [0; 8192]
+}
+
 // The page of a round that was allotted.
 fn put_answered(page: &mut [u8], file: &[u8], offers: usize, answer: &[u8]) -> usize
     requires { ⌜ Answered (now file) offers (now answer) ⌝ }
     requires { ⌜ 8192 ≤ length (now page) ⌝ }
-    ensures { λ r. ⌜ Put (now (page .entry)) 0 (Page·page (roundOf (now (file .entry)))) (now (page .exit)) r ⌝ }
+    ensures { λ r. ⌜ Front (now (page .entry)) (Page·page (roundOf (now (file .entry)))) (now (page .exit)) r ⌝ }
 {
     let h = head_in(&file[4..12]);
     put_allotment(page, offers, h.candidates, h.institutes, answer)
@@ -40,7 +46,7 @@ fn put_answered(page: &mut [u8], file: &[u8], offers: usize, answer: &[u8]) -> u
 // The page of a round file, or the line of its refusal, at the front of an area of 8,192 bytes.
 pub fn put_page(page: &mut [u8], file: &[u8]) -> usize
     requires { ⌜ 8192 ≤ length (now page) ⌝ }
-    ensures { λ r. ⌜ Put (now (page .entry)) 0 (printed (now (file .entry))) (now (page .exit)) r ⌝ }
+    ensures { λ r. ⌜ Front (now (page .entry)) (printed (now (file .entry))) (now (page .exit)) r ⌝ }
 {
     let mut answer = answer_room();
     let mut work = work_room();

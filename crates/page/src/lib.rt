@@ -3,6 +3,5 @@ mod call;
 mod lines;
 mod reads;
 
+pub use call::page_room;
 pub use call::put_page;
-pub use lines::put_offers;
-pub use lines::put_refusal;

@@ -4,12 +4,12 @@ use mathlib.Core.Path.{_≡_, refl, sym, ap, _∙_}
 use mathlib.Core.List.{List, [], _∷_, _++_}
 use native.Mathlib.Omega.{arith}
 use native.Mathlib.Numerals.{add-one}
-use lib.ListN.{length, getD, set, take, length-append}
-use lib.Seq.{sets, length-sets, take-suc, take-all, length-take-le}
+use lib.ListN.{length, getD, set, take, drop, length-append}
+use lib.Seq.{sets, length-sets, take-suc, take-all, length-take-le, take-append-seam, drop-append-seam}
 use Rattle.round.specs.Lists.{tabulate, tabulateFrom, joined}
-use Rattle.round.proofs.Joined.{sets-append, joined-more}
+use Rattle.round.proofs.Joined.{sets-append, sets-front, joined-more}
 use Rattle.text.specs.Decimal.{decimal, nextNumber, named}
-use Rattle.text.specs.Put.{Fits, Put}
+use Rattle.text.specs.Put.{Fits, Put, Front}
 
 -- nothing
 pub put-none : (area : List ℕ) (at : ℕ) → Put area at [] area at
@@ -83,3 +83,15 @@ put-piece f i p q = rw (add-one, joined-more) (put-then p q)
 pub put-all : {area now : List ℕ} {at behind i n : ℕ} (f : ℕ → List ℕ) → Put area at (joined (tabulate i f)) now behind → i ≤ n → n ≤ i
     → Put area at (joined (tabulate n f)) now behind
 put-all {i = i} {n = n} f p l m = let e : n ≡ i = omega arith in rw e p
+
+-- a text that is put in from the front, where there is room, stands there
+pub front-put : {area text now : List ℕ} {size : ℕ} → Fits area 0 text → Put area 0 text now size → Front area text now size
+front-put {area} {text} {now} {size} fits p =
+    let long : size ≡ length text = omega arith in
+    let whole : now ≡ text ++ drop (length text) area = p .stored ∙ sets-front area text (omega arith) in
+    let inside : size ≤ length now = omega arith in
+    record {
+      counts = (inside, sym (length-take-le size now inside));
+      shows = rw (long, whole) (take-append-seam text (drop (length text) area));
+      rest = rw (long, whole) (drop-append-seam text (drop (length text) area));
+    }

@@ -1,24 +1,13 @@
-// The worked rounds of document 01, in its order, and two more that its words fix: each is allotted and printed.
-use allotment::Answer;
-ghost use mathlib.Core.Path.{_≡_};
-ghost use lib.ListN.{length};
+// The worked rounds of document 01, in its order, and two more that its words fix: the page of each is printed.
+use libc::STDOUT_FILENO;
+use page::page_room;
+use page::put_page;
 
-// An area for these rounds.
-fn room() -> [u8; 64]
-    ensures { λ r. ⌜ length r ≡ 64 ⌝ }
-{
-    [0; 64]
-}
-
-// Allots a round and prints what document 01 says.
+// Prints the page of a round.
 fn show(file: &[u8]) {
-    let mut answer = room();
-    let mut work = room();
-    let got = allotment::allot(file, &mut answer, &mut work);
-    match got {
-        Answer::Allotted(offers) => lines::allotted(file, offers, &answer),
-        Answer::Refused { number, offset } => lines::refused(number, offset),
-    }
+    let mut page = page_room();
+    let length = put_page(&mut page, file);
+    io::write_all(STDOUT_FILENO, &page[..length]);
 }
 
 fn file_a() {

@@ -1,7 +1,7 @@
 -- `area_cases::shown` lends parts that lie within both rooms.
 -- Assumes nothing.
-use lib.Seq.{length-take-le}
 use borrow.Author.Needs.{needs}
+use lib.Seq.{length-take-le}
 use Rattle.area_cases.proofs.shown.Statement.{statement}
 use Rattle.area_cases.proofs.shown.Tie as tie
 
@@ -20,17 +20,8 @@ slice-aggregate-allot-2 c = search (needs, length-take-le)
 allot-requires : tie.Need-allot-requires
 allot-requires c κs = search needs
 
-enum-known-got : tie.Need-enum-known-got
-enum-known-got c = search needs
-
-allotted-requires : tie.Need-allotted-requires
-allotted-requires c κs = search needs
-
-enum-known-got-2 : tie.Need-enum-known-got-2
-enum-known-got-2 c = search needs
-
-refused-requires : tie.Need-refused-requires
-refused-requires c κs = search needs
+answered-requires : tie.Need-answered-requires
+answered-requires c κs = search needs
 
 area-requires : tie.Need-area-requires
 area-requires c κs = search needs
@@ -56,10 +47,7 @@ shown-spec =
     slice-relend-prefix-allot-2
     slice-aggregate-allot-2
     allot-requires
-    enum-known-got
-    allotted-requires
-    enum-known-got-2
-    refused-requires
+    answered-requires
     area-requires
     area-requires-2
     same-length

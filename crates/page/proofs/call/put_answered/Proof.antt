@@ -1,7 +1,7 @@
 -- The head is read again, and the page off the answer area.
 -- Assumes nothing.
 use borrow.Author.Needs.{needs}
-use Rattle.page.proofs.Answering.{head-there, answer-there, page-fits, answered-put}
+use Rattle.page.proofs.Answering.{head-there, answer-there, page-fits, answered-front}
 use Rattle.page.proofs.call.put_answered.Statement.{statement}
 use Rattle.page.proofs.call.put_answered.Tie as tie
 
@@ -24,11 +24,15 @@ begun c = c .before .before .before .before
 put-allotment-requires : tie.Need-put-allotment-requires
 put-allotment-requires c κs = (search (needs, answer-there), search (needs, page-fits, begun c .shared-slice-known .given))
 
+-- and seen from the end
+abbrev ended : tie.After-slice-known2 → tie.After-shared-slice-known
+ended c = c .before .before .before .before .before .before .before
+
 same-length : tie.Need-same-length
 same-length c = search needs
 
 returns : tie.Need-returns
-returns c = search (needs, answered-put)
+returns c = search (needs, answered-front, ended c .shared-slice-known .given)
 
 pub put-answered-spec : {M : Type 1} → statement M
 put-answered-spec =

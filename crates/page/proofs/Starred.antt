@@ -1,6 +1,7 @@
--- The starred rounds of document 01, "Worked rounds": one table of file bytes and what a call on them gives, and one theorem, computed on
--- the definitions from the bytes to the answer and both areas.
+-- The starred rounds of document 01, "Worked rounds": one table of file bytes, what a call on them gives and what is printed, and one theorem,
+-- computed on the definitions from the bytes to the answer, both areas and the text.
 use Prim.Native.Nat.{ℕ}
+use Prim.Native.String.{String}
 use mathlib.Core.Path.{_≡_, refl}
 use mathlib.Core.List.{List, [], _∷_, _++_, map}
 use lib.ListN.{length, drop, replicate}
@@ -15,8 +16,11 @@ use Rattle.choice.specs.Choice.{considers, positionsAt, takenAt, vacantAt, adva
 use Rattle.offers.specs.Rows.{rankIn}
 use Rattle.offers.specs.Offers.{placeOn, stepsOn}
 use Rattle.offers.specs.Process.{madeTo, chosen, seatBy, seatsAfter, mayOffer, turn, turns, tried, offersMade, seats}
 use Rattle.allotment.specs.Areas.{wordBytes, closingPlace, closingBytes, answerBytes}
 use Rattle.allotment.specs.Outcome.{Outcome, allotted, refused, outcome, answerAfter, workAfter}
+use Rattle.text.specs.Ascii.{ascii}
+use Rattle.text.specs.Decimal.{decimalBy}
+use Rattle.page.specs.Page.{sixPlaces, page, printed}
 
 abbrev pub Bytes : Type 0
 Bytes = List ℕ
@@ -109,11 +113,12 @@ meritOfOne = 0x02 ∷ 0x00 ∷ 0x04 ∷ 0x00 ∷ 0x01 ∷ 0x00 ∷ []
 abbrev meritOfNone : Bytes
 meritOfNone = 0x00 ∷ 0x00 ∷ 0x04 ∷ 0x00 ∷ []
 
--- a call on a file, or what the document says of one: the answer, and both areas afterwards
+-- a call on a file, or what the document says of one: the answer, both areas afterwards, and what the program prints for the file
 pub record Call : Type 0 where
   pub answer : Outcome
   pub answerArea : Bytes
   pub workArea : Bytes
+  pub text : Bytes
 
 -- both areas are lent full of this byte, with room to spare
 abbrev pub lent : ℕ → Bytes
@@ -124,6 +129,7 @@ called file = record {
   answer = outcome file 24 32;
   answerArea = answerAfter file (lent 24) (lent 32);
   workArea = workAfter file (lent 24) (lent 32);
+  text = printed file;
 }
 
 abbrev seat : ℕ → ℕ → Bytes
@@ -133,16 +139,17 @@ abbrev overwritten : Bytes → ℕ → Bytes
 overwritten bytes size = bytes ++ drop (length bytes) (lent size)
 
 -- allotted: so many offers, each candidate's seat, the one institute's closing places; 8 work bytes a candidate are 0
-abbrev allots : ℕ → List Bytes → List ℕ → Call
-allots offers list closing = record {
+abbrev allots : ℕ → List Bytes → List ℕ → String → Call
+allots offers list closing text = record {
   answer = allotted offers;
   answerArea = overwritten (joined list ++ joined (map wordBytes closing)) 24;
   workArea = overwritten (joined (map (λ s. replicate 8 0) list)) 32;
+  text = ascii text;
 }
 
--- refused: the number and the byte; both areas stay
-abbrev refuses : ℕ → ℕ → Call
-refuses number offset = record { answer = refused number offset; answerArea = lent 24; workArea = lent 32 }
+-- refused: the number and the byte; both areas stay; the line printed
+abbrev refuses : ℕ → ℕ → String → Call
+refuses number offset text = record { answer = refused number offset; answerArea = lent 24; workArea = lent 32; text = ascii text }
 
 pub record Case : Type 0 where
   pub file : Bytes
@@ -154,49 +161,49 @@ shows records expected = record { file = joined records; expected = expected }
 abbrev table : List Case
 table =
     -- A
-    shows (headOfA ∷ instituteOfA ∷ generalOpen ∷ obcBoth ∷ markedOpen ∷ meritOfA ∷ []) (allots 4 (seat 0 0 ∷ seat 1 4 ∷ seat 1 1 ∷ []) (3 ∷ 0 ∷ 0 ∷ 2 ∷ 0 ∷ 0 ∷ []))
+    shows (headOfA ∷ instituteOfA ∷ generalOpen ∷ obcBoth ∷ markedOpen ∷ meritOfA ∷ []) (allots 4 (seat 0 0 ∷ seat 1 4 ∷ seat 1 1 ∷ []) (3 ∷ 0 ∷ 0 ∷ 2 ∷ 0 ∷ 0 ∷ []) "offers 4\n1 0 0\n2 1 4\n3 1 1\nclosing 1 3 0 0 2 0 0\n")
     ∷
     -- A with candidate 2 listing only open
-    shows (headOfA ∷ instituteOfA ∷ generalOpen ∷ obcOpen ∷ markedOpen ∷ meritOfA ∷ []) (allots 3 (seat 1 6 ∷ seat 0 0 ∷ seat 1 1 ∷ []) (3 ∷ 0 ∷ 0 ∷ 0 ∷ 0 ∷ 1 ∷ []))
+    shows (headOfA ∷ instituteOfA ∷ generalOpen ∷ obcOpen ∷ markedOpen ∷ meritOfA ∷ []) (allots 3 (seat 1 6 ∷ seat 0 0 ∷ seat 1 1 ∷ []) (3 ∷ 0 ∷ 0 ∷ 0 ∷ 0 ∷ 1 ∷ []) "offers 3\n1 1 6\n2 0 0\n3 1 1\nclosing 1 3 0 0 0 0 1\n")
     ∷
     -- the same under policy 0
-    shows (underPolicy0 ∷ instituteOfA ∷ generalOpen ∷ obcOpen ∷ markedOpen ∷ meritOfA ∷ []) (allots 3 (seat 0 0 ∷ seat 0 0 ∷ seat 1 1 ∷ []) (3 ∷ 0 ∷ 0 ∷ 0 ∷ 0 ∷ 0 ∷ []))
+    shows (underPolicy0 ∷ instituteOfA ∷ generalOpen ∷ obcOpen ∷ markedOpen ∷ meritOfA ∷ []) (allots 3 (seat 0 0 ∷ seat 0 0 ∷ seat 1 1 ∷ []) (3 ∷ 0 ∷ 0 ∷ 0 ∷ 0 ∷ 0 ∷ []) "offers 3\n1 0 0\n2 0 0\n3 1 1\nclosing 1 3 0 0 0 0 0\n")
     ∷
     -- open 2, one position each for types 1 and 2; merit 1, 2, 3 with types {1,2}, {1}, {2}
-    shows (headOfTypes ∷ instituteOfTypes ∷ bothTypes ∷ markedOpen ∷ secondType ∷ meritOfA ∷ []) (allots 3 (seat 1 1 ∷ seat 1 1 ∷ seat 0 0 ∷ []) (2 ∷ 0 ∷ 0 ∷ 0 ∷ 0 ∷ 0 ∷ []))
+    shows (headOfTypes ∷ instituteOfTypes ∷ bothTypes ∷ markedOpen ∷ secondType ∷ meritOfA ∷ []) (allots 3 (seat 1 1 ∷ seat 1 1 ∷ seat 0 0 ∷ []) (2 ∷ 0 ∷ 0 ∷ 0 ∷ 0 ∷ 0 ∷ []) "offers 3\n1 1 1\n2 1 1\n3 0 0\nclosing 1 2 0 0 0 0 0\n")
     ∷
     -- one candidate with an empty row
-    shows (headOfOne ∷ oneOpen ∷ emptyRow ∷ meritOfOne ∷ []) (allots 0 (seat 0 0 ∷ []) (0 ∷ 0 ∷ 0 ∷ 0 ∷ 0 ∷ 0 ∷ []))
+    shows (headOfOne ∷ oneOpen ∷ emptyRow ∷ meritOfOne ∷ []) (allots 0 (seat 0 0 ∷ []) (0 ∷ 0 ∷ 0 ∷ 0 ∷ 0 ∷ 0 ∷ []) "offers 0\n1 0 0\nclosing 1 0 0 0 0 0 0\n")
     ∷
     -- one candidate listing open, no positions
-    shows (headOfOne ∷ noPositions ∷ generalOpen ∷ meritOfOne ∷ []) (allots 1 (seat 0 0 ∷ []) (0 ∷ 0 ∷ 0 ∷ 0 ∷ 0 ∷ 0 ∷ []))
+    shows (headOfOne ∷ noPositions ∷ generalOpen ∷ meritOfOne ∷ []) (allots 1 (seat 0 0 ∷ []) (0 ∷ 0 ∷ 0 ∷ 0 ∷ 0 ∷ 0 ∷ []) "offers 1\n1 0 0\nclosing 1 0 0 0 0 0 0\n")
     ∷
     -- one candidate listing open, absent from the merit list, one open position
-    shows (headOfOne ∷ oneOpen ∷ generalOpen ∷ meritOfNone ∷ []) (allots 1 (seat 0 0 ∷ []) (0 ∷ 0 ∷ 0 ∷ 0 ∷ 0 ∷ 0 ∷ []))
+    shows (headOfOne ∷ oneOpen ∷ generalOpen ∷ meritOfNone ∷ []) (allots 1 (seat 0 0 ∷ []) (0 ∷ 0 ∷ 0 ∷ 0 ∷ 0 ∷ 0 ∷ []) "offers 1\n1 0 0\nclosing 1 0 0 0 0 0 0\n")
     ∷
     -- the empty file
-    shows ([]) (refuses 1 0)
+    shows ([]) (refuses 1 0 "refused 1 at 0\n")
     ∷
     -- A cut to 71 bytes
-    shows (headOfA ∷ instituteOfA ∷ generalOpen ∷ obcBoth ∷ markedOpen ∷ meritCut ∷ []) (refuses 4 62)
+    shows (headOfA ∷ instituteOfA ∷ generalOpen ∷ obcBoth ∷ markedOpen ∷ meritCut ∷ []) (refuses 4 62 "refused 4 at 62\n")
     ∷
     -- A with one byte more
-    shows (headOfA ∷ instituteOfA ∷ generalOpen ∷ obcBoth ∷ markedOpen ∷ meritOfA ∷ (0 ∷ []) ∷ []) (refuses 13 72)
+    shows (headOfA ∷ instituteOfA ∷ generalOpen ∷ obcBoth ∷ markedOpen ∷ meritOfA ∷ (0 ∷ []) ∷ []) (refuses 13 72 "refused 13 at 72\n")
     ∷
     -- A, open reserved 2 of 1
-    shows (headOfA ∷ reservedTwo ∷ generalOpen ∷ obcBoth ∷ markedOpen ∷ meritOfA ∷ []) (refuses 7 12)
+    shows (headOfA ∷ reservedTwo ∷ generalOpen ∷ obcBoth ∷ markedOpen ∷ meritOfA ∷ []) (refuses 7 12 "refused 7 at 12\n")
     ∷
     -- A, candidate 1 listing 1 3
-    shows (headOfA ∷ instituteOfA ∷ generalObc ∷ obcBoth ∷ markedOpen ∷ meritOfA ∷ []) (refuses 9 36)
+    shows (headOfA ∷ instituteOfA ∷ generalObc ∷ obcBoth ∷ markedOpen ∷ meritOfA ∷ []) (refuses 9 36 "refused 9 at 36\n")
     ∷
     -- A, last merit number 2
-    shows (headOfA ∷ instituteOfA ∷ generalOpen ∷ obcBoth ∷ markedOpen ∷ meritTwice ∷ []) (refuses 12 62)
+    shows (headOfA ∷ instituteOfA ∷ generalOpen ∷ obcBoth ∷ markedOpen ∷ meritTwice ∷ []) (refuses 12 62 "refused 12 at 62\n")
     ∷
     -- both
-    shows (headOfA ∷ instituteOfA ∷ generalObc ∷ obcBoth ∷ markedOpen ∷ meritTwice ∷ []) (refuses 9 36)
+    shows (headOfA ∷ instituteOfA ∷ generalObc ∷ obcBoth ∷ markedOpen ∷ meritTwice ∷ []) (refuses 9 36 "refused 9 at 36\n")
     ∷
     []
 
 pub starred : map (λ c. called (c .file)) table ≡ map (λ c. c .expected) table
-unfolding called startOf questionsAt verdict verdictFrom stepIn dereserved stepsIn entryIn candidateIn instituteFrom roundOf holds oneLess greatest useOf raises takenBefore takenForUse remaining takenByMerit taken considers positionsAt takenAt vacantAt advance advanceAll nothingDone choose rankIn placeOn stepsOn madeTo chosen seatBy seatsAfter mayOffer turn turns tried offersMade seats closingPlace closingBytes answerBytes outcome answerAfter workAfter
+unfolding called startOf questionsAt verdict verdictFrom stepIn dereserved stepsIn entryIn candidateIn instituteFrom roundOf holds oneLess greatest useOf raises takenBefore takenForUse remaining takenByMerit taken considers positionsAt takenAt vacantAt advance advanceAll nothingDone choose rankIn placeOn stepsOn madeTo chosen seatBy seatsAfter mayOffer turn turns tried offersMade seats closingPlace closingBytes answerBytes outcome answerAfter workAfter decimalBy sixPlaces page printed
 starred = refl

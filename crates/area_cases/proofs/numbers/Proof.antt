@@ -1,10 +1,10 @@
--- `lines::numbers` ends: each turn leaves one byte fewer.
+-- `area_cases::numbers` ends: each turn leaves one byte fewer.
 -- Assumes nothing.
 use borrow.Author.Needs.{needs}
 use lib.ListN.{length}
 use Prim.Native.Nat.{_≤_, _-_}
-use Rattle.lines.proofs.numbers.Statement.{statement}
-use Rattle.lines.proofs.numbers.Tie as tie
+use Rattle.area_cases.proofs.numbers.Statement.{statement}
+use Rattle.area_cases.proofs.numbers.Tie as tie
 
 abbrev Inv-loop : tie.InvT-loop
 Inv-loop bytes i₀ i-end i = i ≤ length bytes
