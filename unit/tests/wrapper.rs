@@ -43,16 +43,36 @@ fn the_most_is_what_document_01_says() {
     assert_eq!((FILE_MOST, ANSWER_MOST, WORK_MOST), (55_372, 1_408, 4_096));
 }
 
+/// The meaning of a number.
+fn meaning(number: usize) -> &'static str {
+    Refusal { number, offset: 0 }.meaning()
+}
+
 #[test]
 fn a_refusal_says_what_is_wrong() {
     let said = allot(&A[..71], &mut [], &mut []);
     assert_eq!(said, refused(4, 62));
     assert_eq!(said.to_string(), "refused 4 at 62");
-    let mut meanings: Vec<&str> = (1..=14)
-        .map(|number| Refusal { number, offset: 0 }.meaning())
-        .collect();
-    assert_eq!(meanings[3], "the whole body of the record is not there");
-    meanings.sort();
-    meanings.dedup();
-    assert_eq!(meanings.len(), 14);
+    assert_eq!(
+        meaning(4),
+        "the file ends before the whole body of the record"
+    );
+}
+
+#[test]
+fn the_list_has_a_meaning_for_each_question_and_no_other() {
+    let lines: Vec<&str> = include_str!("../meanings.txt").lines().collect();
+    assert_eq!(lines.len(), 14);
+    for (before, &line) in lines.iter().enumerate() {
+        assert_eq!(meaning(before + 1), line);
+        assert_eq!(line, line.trim());
+        assert!(!line.is_empty() && !line.ends_with('.'));
+        assert!(!lines[..before].contains(&line), "{line} stands twice");
+    }
+    for number in [0, 15, usize::MAX] {
+        assert_eq!(
+            meaning(number),
+            "document 01 has no question of this number"
+        );
+    }
 }
