@@ -54,10 +54,11 @@ fn dribble(random: &mut Random, mut to: ChildStdin, file: &[u8]) {
 }
 
 impl Program {
-    /// What the program prints for a file that reaches it in a way.
+    /// What the program prints for a file that reaches it in a way, and behind it what it says on standard error: nothing where all is
+    /// well.
     fn printed(&self, random: &mut Random, file: &[u8], way: Way) -> io::Result<String> {
         let mut command = Command::new(&self.path);
-        command.stdout(Stdio::piped());
+        command.stdout(Stdio::piped()).stderr(Stdio::piped());
         if way == Way::File {
             std::fs::create_dir_all(&self.scratch)?;
             let path = self.scratch.join("input");
@@ -80,6 +81,9 @@ impl Program {
         })
         .transpose()?;
         let mut text = String::from_utf8_lossy(&printed).into_owned();
+        if let Some(mut from) = child.stderr.take() {
+            from.read_to_string(&mut text)?;
+        }
         let status = child.wait()?;
         if !status.success() {
             text.push_str(&format!("({status})\n"));

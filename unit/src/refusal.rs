@@ -18,7 +18,7 @@ impl Refusal {
         self.number
             .checked_sub(1)
             .and_then(|before| MEANINGS.lines().nth(before))
-            .unwrap_or("document 01 has no question of this number")
+            .unwrap_or("no question has this number")
     }
 }
 
