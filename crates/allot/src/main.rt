@@ -8,7 +8,7 @@ ghost use mathlib.Core.Path.{_≡_};
 ghost use lib.ListN.{length};
 ghost use Rattle.page.specs.Page.{printed};
 
-// Room for as much of the input as decides what is printed: the longest lawful file and one byte more.
+// Room for as much of the input as decides what is printed (law `first-bytes` of `page`): the longest lawful file and one byte more.
 fn input_room() -> [u8; 55373]
     ensures { λ r. ⌜ length r ≡ 55373 ⌝ }
 {
