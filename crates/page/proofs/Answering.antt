@@ -1,7 +1,7 @@
 -- The page of an accepted file: its head is there, the page fits, and what is read off its answer area is the page of its round.
 use Prim.Native.Nat.{ℕ, _+_, _*_, _≤_}
 use mathlib.Core.Path.{_≡_, sym, ap, _∙_}
-use mathlib.Core.List.{List, _++_}
+use mathlib.Core.List.{List}
 use native.Mathlib.Omega.{arith}
 use lib.ListN.{length, getD, take, drop, length-append}
 use mir.Syntax.{w8, w64}

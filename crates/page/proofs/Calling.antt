@@ -1,7 +1,7 @@
 -- The answer of a call with areas for the largest round, as what is printed: it is allotted where the file passes, and else refused as the file is.
-use Prim.Native.Nat.{ℕ, _*_, _+_, _≤_}
+use Prim.Native.Nat.{ℕ, _≤_}
 use mathlib.Core.Path.{_≡_, refl, sym, ap, _∙_}
-use mathlib.Core.List.{List, _++_}
+use mathlib.Core.List.{List}
 use native.Mathlib.Omega.{arith}
 use lib.ListN.{length, drop}
 use mir.Syntax.{w64}
@@ -13,7 +13,7 @@ use Rattle.round.proofs.Sound.{sound}
 use Rattle.offers.specs.Process.{offersMade}
 use Rattle.allotment.specs.declared.Answer.{Answer}
 use Rattle.allotment.specs.declared.Answer.the-variants.{Allotted, Refused}
-use Rattle.allotment.specs.Areas.{answerBytes, answerSize, workSize}
+use Rattle.allotment.specs.Areas.{answerSize}
 use Rattle.allotment.specs.Outcome.{Outcome, allotted, refused, outcomeOf, outcome}
 use Rattle.allotment.specs.Promise.{Promise}
 use Rattle.allotment.proofs.Files.Accepting.{outcome-refused, outcome-allotted, answer-written}

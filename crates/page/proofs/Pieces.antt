@@ -1,11 +1,10 @@
 -- The closing places of a line, the seats and the closing lines of a page, one more at a time.
 use Prim.Native.Nat.{ℕ, _+_, _*_, _<_, _≤_}
-use mathlib.Core.Path.{_≡_, refl, sym, ap}
+use mathlib.Core.Path.{_≡_}
 use mathlib.Core.List.{List}
 use lib.ListN.{getD}
 use Rattle.round.specs.Lists.{tabulate, joined}
 use Rattle.round.specs.Records.{word}
-use Rattle.offers.specs.Process.{Seat}
 use Rattle.allotment.specs.Areas.{seatIn}
 use Rattle.text.specs.Decimal.{nextNumber}
 use Rattle.text.specs.Put.{Fits, Put}

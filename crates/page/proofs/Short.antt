@@ -1,12 +1,8 @@
 -- A page has at most 8,192 bytes.
-use Prim.Native.Nat.{ℕ, zero, suc, _+_, _*_, _^_, _<_, _≤_}
-use mathlib.Core.Path.{_≡_, refl, ap}
+use Prim.Native.Nat.{ℕ, suc, _+_, _*_, _<_, _≤_}
 use mathlib.Core.List.{List, _++_}
 use native.Mathlib.Omega.{arith}
-use native.Mathlib.Nat.{mul-le-mul}
 use lib.ListN.{length, getD, length-append}
-use Rattle.round.specs.Lists.{tabulate, joined}
-use Rattle.round.specs.Records.{word}
 use Rattle.round.proofs.Joined.{joined-short}
 use Rattle.offers.specs.Process.{Seat}
 use Rattle.allotment.specs.Areas.{seatIn}

@@ -1,16 +1,14 @@
 -- The page that is read off an answer area is the page of the round whose answer stands there.
-use Prim.Native.Nat.{ℕ, suc, _+_, _*_, _<_, _≤_}
+use Prim.Native.Nat.{ℕ, suc, _+_, _*_, _<_}
 use mathlib.Core.Path.{_≡_, ap, ap₂}
 use mathlib.Core.List.{List, _++_}
 use native.Mathlib.Omega.{arith}
-use lib.ListN.{length, getD}
+use lib.ListN.{getD}
 use Rattle.round.specs.Lists.{tabulate, joined}
-use Rattle.round.specs.Records.{word}
 use Rattle.round.specs.Round.{Round}
-use Rattle.round.specs.Places.{instituteAt}
 use Rattle.round.specs.Sound.{Sound}
 use Rattle.choice.proofs.Tabulate.{tabulate-cong}
-use Rattle.offers.specs.Process.{Seat, noSeat, candidateCount, instituteCount, offersMade, seats}
+use Rattle.offers.specs.Process.{noSeat, candidateCount, instituteCount, offersMade, seats}
 use Rattle.offers.proofs.Rounds.Bounds.{merit-short}
 use Rattle.allotment.specs.Areas.{closingPlace, answerBytes, seatIn}
 use Rattle.allotment.proofs.Files.AreaSeats.{seat-stands, closing-stands}

@@ -17,22 +17,18 @@ part-head-in-end c = search (needs, head-there)
 head-in-requires : tie.Need-head-in-requires
 head-in-requires c κs = search needs
 
--- what is known of the answer area from the start
-abbrev begun : tie.After-put-allotment-arg → tie.After-shared-slice-known
-begun c = c .before .before .before .before
-
 put-allotment-requires : tie.Need-put-allotment-requires
-put-allotment-requires c κs = (search (needs, answer-there), search (needs, page-fits, begun c .shared-slice-known .given))
-
--- and seen from the end
-abbrev ended : tie.After-slice-known2 → tie.After-shared-slice-known
-ended c = c .before .before .before .before .before .before .before
+put-allotment-requires c κs =
+    let begun : tie.After-shared-slice-known = search needs in
+    (search (needs, answer-there), search (needs, page-fits, begun .shared-slice-known .given))
 
 same-length : tie.Need-same-length
 same-length c = search needs
 
 returns : tie.Need-returns
-returns c = search (needs, answered-front, ended c .shared-slice-known .given)
+returns c =
+    let begun : tie.After-shared-slice-known = search needs in
+    search (needs, answered-front, begun .shared-slice-known .given)
 
 pub put-answered-spec : {M : Type 1} → statement M
 put-answered-spec =
