@@ -1,6 +1,6 @@
 -- Where the completion takes at most one offer of each place, the choice takes the same offers; and any two sets of
--- offers, one within the other and both with what the completion takes of the larger, get the same steps.
-use Prim.Native.Nat.{ℕ, suc, _+_, _≤_, _<_}
+-- offers, one within the other and both with what the completion takes of the larger, get the same steps and the same account.
+use Prim.Native.Nat.{ℕ, suc, _+_, _-_, _≤_, _<_}
 use mathlib.Core.Path.{_≡_, refl, sym, _∙_, ap}
 use mathlib.Core.Bool.{Bool, true, false, cond, not, _&&_, and-false, and-not-self}
 use mathlib.Core.List.{List, [], _∷_}
@@ -11,13 +11,16 @@ use lib.ListN.{length, getD, getD-replicate}
 use borrow.Author.Tests.{not-true, eqb-true, eqb-false}
 use Rattle.round.specs.declared.entry.Category.{Category}
 use Rattle.round.specs.Round.{StepRule}
-use Rattle.round.specs.Lists.{sum}
+use Rattle.round.specs.Lists.{tabulate, sum}
 use Rattle.round.proofs.Words.{and-fst, and-snd, tabulate-at}
+use Rattle.choice.specs.Step.{takenForUse, takenByMerit}
 use Rattle.choice.specs.Choice.{Progress, considers, positionsAt, takenAt, vacantAt, advance, advanceAll, nothingDone, choose}
-use Rattle.choice.proofs.Counting.{clash, false-unless}
+use Rattle.choice.specs.Account.{StepAccount, accountAt, accountFrom, account}
+use Rattle.choice.proofs.Counting.{clash, false-unless, count-ext}
+use Rattle.choice.proofs.Tabulate.{tabulate-cong}
 use Rattle.choice.proofs.Sets.{left-if-out}
-use Rattle.choice.proofs.Filling.{TakesForUse, taken-within, taken-irrelevant}
-use Rattle.choice.proofs.Completion.{Lawful, progress-below, Completing, positionsIn, takenIn, complete, completeAll, allLeft, completion, left-before, completion-within}
+use Rattle.choice.proofs.Filling.{TakesForUse, irrelevant, taken-within, taken-irrelevant, use-taken, merit-is}
+use Rattle.choice.proofs.Completion.{Lawful, progress-below, Completing, positionsIn, takenIn, vacantIn, complete, completeAll, allLeft, completion, left-before, completion-within}
 use Rattle.choice.proofs.Offers.{Offers, WithinBelow, Alone, same, same-self, same-category}
 use Rattle.choice.proofs.Chosen.{takenUnder, under-none}
 
@@ -40,6 +43,20 @@ noted-other : (s y l : Bool) → (y && not l) ≡ (y && not (l && not (s && fals
 noted-other true y true = refl
 noted-other false y true = refl
 noted-other s y false = refl
+
+-- the account of a step of the completion, and of the steps of these rules, numbered from k
+module _ (marks : List ℕ) where
+  abbrev accountIn : ℕ → StepRule → Completing → StepAccount
+  accountIn k rule now = record {
+    positions = positionsIn marks k rule now;
+    forUse = tabulate (length marks) (takenForUse (rule .reserved) marks (λ p. now .left p (rule .category)));
+    byMerit = tabulate (length marks) (takenByMerit (rule .reserved) marks (λ p. now .left p (rule .category)) (positionsIn marks k rule now));
+    vacant = vacantIn marks k rule now;
+  }
+
+  accountsIn : ℕ → List StepRule → Completing → List StepAccount
+  accountsIn k [] now = []
+  accountsIn k (rule ∷ rules) now = accountIn k rule now ∷ accountsIn (suc k) rules (complete marks k rule now)
 
 module _ (marks : List ℕ) (taking : TakesForUse marks)
     (under : ℕ → Category → Bool) (none : (c : Category) → under 0 c ≡ false)
@@ -76,16 +93,45 @@ module _ (marks : List ℕ) (taking : TakesForUse marks)
             let same-one : one .0 ≡ rule .category = alone p l _ _ (gone-kept p l (one .0) gone) (taken-kept p l t) in
             clash (ap (λ (c : Category). now .left p c) same-one ∙ taken-left p t) (not-true (now .left p (one .0)) (and-snd (Y' p (one .0)) (not (now .left p (one .0))) gone))
 
+    -- the places that the step considers have their offer left, and those taken of what is left are considered
+    considered-left : (p : ℕ) → p < length marks → considers marks Y rule (now .done) p ≡ true → now .left p (rule .category) ≡ true
+    unfolding considers
+    considered-left p l x =
+        let c = rule .category in
+        left-if-out (Y' p c) (now .left p c) (fewer p l c (and-fst (Y p c) _ x)) (sym (agrees .noted p l c) ∙ ap (λ (g : ℕ). under g c) (eqb-true _ _ (and-snd (Y p c) _ x)) ∙ none c)
+
+    taken-considered : (p : ℕ) → p < length marks → takenIn marks k rule now p ≡ true → considers marks Y rule (now .done) p ≡ true
+    unfolding considers
+    taken-considered p l t = rw (held p l (rule .category) (taken-kept p l t), taken-new p l t)
+
     step-same : (p : ℕ) → p < length marks → takenAt marks Y k rule (now .done) p ≡ takenIn marks k rule now p
-    unfolding takenAt takenIn positionsAt positionsIn considers
+    unfolding takenAt takenIn positionsAt positionsIn
     step-same =
         let fits : sum (rule .reserved) ≤ rule .own + now .done .handed k = omega arith in
-        let c = rule .category in
-        taken-irrelevant marks taking (rule .reserved) _ fits
-        (λ p. Y p c && eqb (getD (now .done .given) p 0) 0)
-        (λ p. now .left p c)
-        (λ p l x. left-if-out (Y' p c) (now .left p c) (fewer p l c (and-fst (Y p c) _ x)) (sym (agrees .noted p l c) ∙ ap (λ (g : ℕ). under g c) (eqb-true _ _ (and-snd (Y p c) _ x)) ∙ none c))
-        (λ p l t. rw (held p l c (taken-kept p l t), taken-new p l t))
+        taken-irrelevant marks taking (rule .reserved) _ fits (considers marks Y rule (now .done)) (λ p. now .left p (rule .category)) considered-left taken-considered
+
+    use-same : (p : ℕ) → p < length marks → takenForUse (rule .reserved) marks (considers marks Y rule (now .done)) p ≡ takenForUse (rule .reserved) marks (λ p. now .left p (rule .category)) p
+    unfolding takenIn
+    use-same =
+        irrelevant (length marks) (sum (rule .reserved)) (takenForUse (rule .reserved) marks) (taking (rule .reserved)) (considers marks Y rule (now .done)) (λ p. now .left p (rule .category)) considered-left
+        (λ p l t. taken-considered p l (use-taken (rule .reserved) marks _ (positionsIn marks k rule now) p t))
+
+    merit-same : (p : ℕ) → p < length marks
+        → takenByMerit (rule .reserved) marks (considers marks Y rule (now .done)) (positionsAt marks Y k rule (now .done)) p
+        ≡ takenByMerit (rule .reserved) marks (λ p. now .left p (rule .category)) (positionsIn marks k rule now) p
+    unfolding takenAt takenIn
+    merit-same p l =
+        merit-is (rule .reserved) marks _ _ p
+        ∙ rw (step-same p l, use-same p l)
+        (sym (merit-is (rule .reserved) marks (λ p. now .left p (rule .category)) (positionsIn marks k rule now) p))
+
+    step-account : accountAt marks Y k rule (now .done) ≡ accountIn marks k rule now
+    unfolding accountAt vacantAt vacantIn positionsAt positionsIn
+    step-account =
+        let for-use = tabulate-cong (length marks) _ _ use-same in
+        let by-merit = tabulate-cong (length marks) _ _ merit-same in
+        let number = count-ext (length marks) (takenAt marks Y k rule (now .done)) (takenIn marks k rule now) step-same in
+        λ i. record { positions = rule .own + now .done .handed k; forUse = for-use i; byMerit = by-merit i; vacant = rule .own + now .done .handed k - number i }
 
     step-done : advance marks Y k rule (now .done) ≡ complete marks k rule now .done
     unfolding advance vacantAt positionsAt positionsIn complete
@@ -116,18 +162,19 @@ module _ (marks : List ℕ) (taking : TakesForUse marks)
         some-then p l false t ne = agrees .some p l ne
 
   -- down the steps, numbered from k
-  all-agree : (rules : List StepRule) → Lawful rules → (k : ℕ) (now : Completing) → Agrees (length marks) under Y' now → ((p : ℕ) → p < length marks → (c : Category) → Y' p c ≡ true → completeAll marks k rules now .left p c ≡ false → Z p c ≡ true) → ((i j : ℕ) → j ≡ k + i → (c : Category) → under j c ≡ takenUnder rules (suc i) c) → (advanceAll marks Y k rules (now .done) ≡ completeAll marks k rules now .done) × Agrees (length marks) under Y' (completeAll marks k rules now)
-  unfolding advanceAll completeAll
-  all-agree [] lawful k now agrees ends number = (refl, agrees)
+  all-agree : (rules : List StepRule) → Lawful rules → (k : ℕ) (now : Completing) → Agrees (length marks) under Y' now → ((p : ℕ) → p < length marks → (c : Category) → Y' p c ≡ true → completeAll marks k rules now .left p c ≡ false → Z p c ≡ true) → ((i j : ℕ) → j ≡ k + i → (c : Category) → under j c ≡ takenUnder rules (suc i) c) → (advanceAll marks Y k rules (now .done) ≡ completeAll marks k rules now .done) × Agrees (length marks) under Y' (completeAll marks k rules now) × (accountFrom marks Y k rules (now .done) ≡ accountsIn marks k rules now)
+  unfolding advanceAll completeAll accountFrom accountsIn
+  all-agree [] lawful k now agrees ends number = (refl, agrees, refl)
   all-agree (rule ∷ rules) lawful k now agrees ends number =
       let next = complete marks k rule now in
       let soon : (p : ℕ) → p < length marks → (c : Category) → Y' p c ≡ true → next .left p c ≡ false → Z p c ≡ true =
       λ p l c y out. ends p l c y (false-unless _ (λ t. clash (left-before marks rules (suc k) next p c t) out)) in
       let later = all-agree rules (lawful .1) (suc k) next (step-agrees k rule (lawful .0) now agrees soon (λ c. number 0 k (omega arith) c)) ends (λ i j e c. number (suc i) j (omega arith) c) in
-      (rw (step-done k rule (lawful .0) now agrees soon) (later .0), later .1)
+      let done = step-done k rule (lawful .0) now agrees soon in
+      (rw done (later .0), later .1, rw (step-account k rule (lawful .0) now agrees soon, done, later .2))
 
 module _ (marks : List ℕ) (taking : TakesForUse marks) (rules : List StepRule) (lawful : Lawful rules) where
-  between : (Y Y' : Offers) → WithinBelow (length marks) Y Y' → WithinBelow (length marks) (completion marks rules Y') Y → Alone (length marks) (completion marks rules Y') → (advanceAll marks Y 1 rules (nothingDone marks Y') ≡ completeAll marks 1 rules (allLeft marks Y') .done) × Agrees (length marks) (takenUnder rules) Y' (completeAll marks 1 rules (allLeft marks Y'))
+  between : (Y Y' : Offers) → WithinBelow (length marks) Y Y' → WithinBelow (length marks) (completion marks rules Y') Y → Alone (length marks) (completion marks rules Y') → (advanceAll marks Y 1 rules (nothingDone marks Y') ≡ completeAll marks 1 rules (allLeft marks Y') .done) × Agrees (length marks) (takenUnder rules) Y' (completeAll marks 1 rules (allLeft marks Y')) × (accountFrom marks Y 1 rules (nothingDone marks Y') ≡ accountsIn marks 1 rules (allLeft marks Y'))
   unfolding completion allLeft nothingDone
   between Y Y' fewer held alone =
       all-agree marks taking (takenUnder rules) (under-none rules) Y Y' (completion marks rules Y') fewer held alone rules lawful 1 (allLeft marks Y')
@@ -151,3 +198,9 @@ module _ (marks : List ℕ) (taking : TakesForUse marks) (rules : List StepRule)
   unfolding choose nothingDone
   same-steps Y Y' fewer held alone =
       ap (λ (done : Progress). done .given) (between Y Y' fewer held alone .0 ∙ sym (between Y' Y' (λ r m d y. y) (λ r m d. completion-within marks rules Y' r d) alone .0))
+
+  -- and the same account
+  pub same-account : (Y Y' : Offers) → WithinBelow (length marks) Y Y' → WithinBelow (length marks) (completion marks rules Y') Y → Alone (length marks) (completion marks rules Y') → account marks Y rules ≡ account marks Y' rules
+  unfolding account nothingDone
+  same-account Y Y' fewer held alone =
+      between Y Y' fewer held alone .2 ∙ sym (between Y' Y' (λ r m d y. y) (λ r m d. completion-within marks rules Y' r d) alone .2)

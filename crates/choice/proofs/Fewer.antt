@@ -13,6 +13,7 @@ use Rattle.round.specs.Lists.{count}
 use Rattle.round.proofs.Words.{tabulate-at}
 use Rattle.choice.specs.Step.{takenBefore, takenForUse, remaining, takenByMerit, taken}
 use Rattle.choice.specs.Choice.{Progress, considers, positionsAt, takenAt, vacantAt, advance, advanceAll, nothingDone, choose}
+use Rattle.choice.specs.Account.{tookForUse, accountAt, accountFrom, account, usedIn}
 use Rattle.choice.specs.Gathers.{Gathers}
 use Rattle.choice.proofs.Counting.{test, bit-true}
 use Rattle.choice.proofs.Offers.{Offers}
@@ -145,3 +146,31 @@ module _ (G : ℕ → Bool) (n : ℕ) (marks marks' : List ℕ) (whole : length 
   pub choose-gathered : (rules : List StepRule) (p : ℕ) → p < n → G p ≡ true → getD (choose marks Y rules) p 0 ≡ getD (choose marks' Y' rules) (count p G) 0
   unfolding choose
   choose-gathered rules p l g = sym (same-choice rules .inside p l g)
+
+  same-used-at : (k : ℕ) (rule : StepRule) (done done' : Progress) → AlikeAmong G n done done' → SameAmong G n (tookForUse (accountAt marks Y k rule done)) (tookForUse (accountAt marks' Y' k rule done'))
+  unfolding accountAt
+  same-used-at k rule done done' a =
+      let s = same-use G n marks marks' whole few gathers (rule .reserved) _ _ (same-considered rule done done' a) in
+      record {
+        inside = λ p l g.
+            tabulate-at (length marks') _ false (count p G) (omega (arith, few, number-below G p n l g))
+            ∙ s .inside p l g
+            ∙ sym (tabulate-at (length marks) _ false p (omega (arith, whole)));
+        outside = λ p l g. tabulate-at (length marks) _ false p (omega (arith, whole)) ∙ s .outside p l g;
+      }
+
+  same-used : (rules : List StepRule) (k : ℕ) (done done' : Progress) → AlikeAmong G n done done' → SameAmong G n (usedIn (accountFrom marks Y k rules done)) (usedIn (accountFrom marks' Y' k rules done'))
+  unfolding accountFrom usedIn
+  same-used [] k done done' a = record { inside = λ p l g. refl; outside = λ p l g. refl }
+  same-used (rule ∷ rules) k done done' a =
+      let now = same-used-at k rule done done' a in
+      let later = same-used rules (suc k) _ _ (same-advance k rule done done' a) in
+      record {
+        inside = λ p l g. rw (now .inside p l g, later .inside p l g);
+        outside = λ p l g. rw (now .outside p l g, later .outside p l g);
+      }
+
+  -- and is taken for use where it is taken for use among the gathered
+  pub used-gathered : (rules : List StepRule) (p : ℕ) → p < n → G p ≡ true → usedIn (account marks Y rules) p ≡ usedIn (account marks' Y' rules) (count p G)
+  unfolding account
+  used-gathered rules p l g = sym (same-used rules 1 _ _ same-start .inside p l g)

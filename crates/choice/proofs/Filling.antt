@@ -2,7 +2,7 @@
 -- fills. Dropping considered places that a rule leaves out changes nothing.
 use Prim.Native.Nat.{ℕ, _+_, _≤_, _<_, min}
 use mathlib.Core.Path.{_≡_, refl, sym, _∙_}
-use mathlib.Core.Bool.{Bool, true, false, not, _&&_, _||_}
+use mathlib.Core.Bool.{Bool, true, false, not, _&&_, _||_, and-true}
 use mathlib.Core.List.{List}
 use native.Mathlib.Omega.{arith}
 use lib.Dec.{ltb}
@@ -140,3 +140,18 @@ module _ (marks : List ℕ) (taking : TakesForUse marks) (reserved : List ℕ) w
   pub taken-irrelevant : (q : ℕ) → sum reserved ≤ q → (X X' : ℕ → Bool) → ((p : ℕ) → p < length marks → X p ≡ true → X' p ≡ true) → ((p : ℕ) → p < length marks → taken reserved marks X' q p ≡ true → X p ≡ true) → (p : ℕ) → p < length marks → taken reserved marks X q p ≡ taken reserved marks X' q p
   unfolding taken takenByMerit remaining filled
   taken-irrelevant = filled-irrelevant (length marks) (sum reserved) (takenForUse reserved marks) (taking reserved)
+
+-- whom a step takes for use it takes, and by merit the others whom it takes
+module _ (reserved marks : List ℕ) (X : ℕ → Bool) (q p : ℕ) where
+  pub use-taken : takenForUse reserved marks X p ≡ true → taken reserved marks X q p ≡ true
+  unfolding taken
+  use-taken t = rw t
+
+  pub merit-is : takenByMerit reserved marks X q p ≡ (taken reserved marks X q p && not (takenForUse reserved marks X p))
+  unfolding taken takenByMerit remaining
+  merit-is = only (takenForUse reserved marks X p) (X p) _
+    where
+      only : (h x t : Bool) → ((x && not h) && t) ≡ ((h || ((x && not h) && t)) && not h)
+      only true true t = refl
+      only true false t = refl
+      only false x t = sym (and-true ((x && true) && t))

@@ -11,6 +11,7 @@ pub mod Offers
 pub mod Completion
 pub mod Chosen
 pub mod Agreement
+pub mod Accounts
 pub mod Counts
 pub mod Visits
 pub mod Written

@@ -1,6 +1,7 @@
 pub mod Use
 pub mod Step
 pub mod Choice
+pub mod Account
 pub mod Handed
 pub mod Offers
 pub mod Search

@@ -1,0 +1,113 @@
+-- What the account says of a place: a step takes it by merit just where the choice gives it that step and no step takes it for use.
+use Prim.Native.Nat.{ℕ, zero, suc, _+_, _-_, _≤_, _<_}
+use mathlib.Core.Path.{_≡_, refl, sym, _∙_, ap}
+use mathlib.Core.Bool.{Bool, true, false, cond, not, _&&_, _||_}
+use mathlib.Core.Logic.{_≢_}
+use mathlib.Core.List.{List, [], _∷_}
+use native.Mathlib.Omega.{arith}
+use lib.Dec.{eqb}
+use lib.ListN.{length, getD}
+use borrow.Author.Tests.{eqb-true, eq-eqb, ne-eqb}
+use Rattle.round.specs.Round.{StepRule}
+use Rattle.round.proofs.Words.{and-snd, tabulate-at}
+use Rattle.choice.specs.Choice.{Progress, considers, takenAt, advance, advanceAll, nothingDone, choose}
+use Rattle.choice.specs.Account.{StepAccount, tookForUse, tookByMerit, accountOf, accountAt, accountFrom, account, usedIn}
+use Rattle.choice.proofs.Counting.{clash, test, false-unless}
+use Rattle.choice.proofs.Offers.{Offers}
+use Rattle.choice.proofs.Tabulate.{getD-zeros}
+use Rattle.choice.proofs.Filling.{use-taken, merit-is}
+use Rattle.choice.proofs.Chosen.{taken-considered}
+
+both-taken : (t e u v : Bool) → t ≡ true → e ≡ true → v ≡ false → (t && not u) ≡ (e && not (u || v))
+both-taken t e true v a b c = rw (a, b)
+both-taken t e false v a b c = rw (a, b, c)
+
+neither-taken : (t e u v : Bool) → t ≡ false → e ≡ false → (t && u) ≡ (e && v)
+neither-taken t e u v a b = rw (a, b)
+
+-- at a place
+module _ (marks : List ℕ) (Y : Offers) (p : ℕ) (inside : p < length marks) where
+  -- the step that it has
+  abbrev given : Progress → ℕ
+  given done = getD (done .given) p 0
+
+  -- step k, from what is done
+  module _ (k : ℕ) (rule : StepRule) (done : Progress) where
+    given-next : given (advance marks Y k rule done) ≡ cond (takenAt marks Y k rule done p) k (given done)
+    unfolding advance
+    given-next = tabulate-at (length marks) _ 0 p inside
+
+    for-use-taken : tookForUse (accountAt marks Y k rule done) p ≡ true → takenAt marks Y k rule done p ≡ true
+    unfolding accountAt takenAt
+    for-use-taken t = use-taken (rule .reserved) marks _ _ p (sym (tabulate-at (length marks) _ false p inside) ∙ t)
+
+    by-merit-is : tookByMerit (accountAt marks Y k rule done) p ≡ (takenAt marks Y k rule done p && not (tookForUse (accountAt marks Y k rule done) p))
+    unfolding accountAt takenAt
+    by-merit-is =
+        tabulate-at (length marks) _ false p inside
+        ∙ merit-is (rule .reserved) marks _ _ p
+        ∙ ap (λ (b : Bool). takenAt marks Y k rule done p && not b) (sym (tabulate-at (length marks) _ false p inside))
+
+    -- a place with a step is taken at no other
+    not-again : given done ≢ 0 → takenAt marks Y k rule done p ≡ false
+    unfolding takenAt considers
+    not-again some = false-unless _ (λ t. some (eqb-true _ 0 (and-snd (Y p (rule .category)) _ (taken-considered (rule .reserved) marks _ _ p t))))
+
+  -- a place with a step keeps it, and no later step takes it for use
+  kept : (rules : List StepRule) (k : ℕ) (done : Progress) → given done ≢ 0
+      → (given (advanceAll marks Y k rules done) ≡ given done) × (usedIn (accountFrom marks Y k rules done) p ≡ false)
+  unfolding advanceAll accountFrom usedIn
+  kept [] k done some = (refl, refl)
+  kept (rule ∷ rules) k done some =
+      let out = not-again k rule done some in
+      let same : given (advance marks Y k rule done) ≡ given done = given-next k rule done ∙ rw out in
+      let later = kept rules (suc k) (advance marks Y k rule done) (λ z. some (sym same ∙ z)) in
+      (later .0 ∙ same, rw (false-unless _ (λ t. clash (for-use-taken k rule done t) out)) (later .1))
+
+  -- the steps from k on give no smaller number
+  comes : (rules : List StepRule) (k m : ℕ) (done : Progress) → m < k → given (advanceAll marks Y k rules done) ≡ m → given done ≡ m
+  unfolding advanceAll
+  comes [] k m done less e = e
+  comes (rule ∷ rules) k m done less e =
+      go (takenAt marks Y k rule done p) (sym (given-next k rule done) ∙ comes rules (suc k) m (advance marks Y k rule done) (omega arith) e)
+    where
+      go : (b : Bool) → cond b k (given done) ≡ m → given done ≡ m
+      go true z = absurd (omega arith)
+      go false z = z
+
+  merit-from : (rules : List StepRule) (k i m : ℕ) (done : Progress) → m ≡ k + i → 0 < k → given done < k
+      → tookByMerit (accountOf (accountFrom marks Y k rules done) (suc i)) p
+      ≡ (eqb (given (advanceAll marks Y k rules done)) m && not (usedIn (accountFrom marks Y k rules done) p))
+  unfolding advanceAll accountFrom usedIn
+  merit-from [] k i m done e pos low = let at : suc i - 1 ≡ i = omega arith in rw (ne-eqb (given done) m (λ z. omega arith))
+  merit-from (rule ∷ rules) k zero m done e pos low =
+      let next = advance marks Y k rule done in
+      test (takenAt marks Y k rule done p)
+      (λ t.
+      let now : given next ≡ k = given-next k rule done ∙ rw t in
+      let later = kept rules (suc k) next (λ z. omega arith) in
+      by-merit-is k rule done ∙ both-taken _ _ (tookForUse (accountAt marks Y k rule done) p) _ t (eq-eqb _ m (later .0 ∙ omega arith)) (later .1))
+      (λ t.
+      let same : given next ≡ given done = given-next k rule done ∙ rw t in
+      by-merit-is k rule done ∙ neither-taken _ _ _ _ t (ne-eqb _ m (λ z. omega (arith, comes rules (suc k) m next (omega arith) z))))
+  merit-from (rule ∷ rules) k (suc i) m done e pos low =
+      let next = advance marks Y k rule done in
+      let at : suc (suc i) - 1 ≡ suc (suc i - 1) = omega arith in
+      rw at
+      (merit-from rules (suc k) i m next (omega arith) (omega arith) (rw (given-next k rule done) (less (takenAt marks Y k rule done p)))
+      ∙ test (tookForUse (accountAt marks Y k rule done) p)
+      (λ u.
+      let now : given next ≡ k = given-next k rule done ∙ rw (for-use-taken k rule done u) in
+      let last : given (advanceAll marks Y (suc k) rules next) ≡ k = kept rules (suc k) next (λ z. omega arith) .0 ∙ now in
+      rw (ne-eqb (given (advanceAll marks Y (suc k) rules next)) m (λ z. omega arith)))
+      (λ u. rw u))
+    where
+      less : (b : Bool) → cond b k (given done) < suc k
+      less true = omega arith
+      less false = omega arith
+
+-- the choice gives place p step k, and no step takes it for use: step k takes it by merit
+pub merit-of : (marks : List ℕ) (Y : Offers) (rules : List StepRule) (p k : ℕ) → p < length marks
+    → tookByMerit (accountOf (account marks Y rules) (suc k)) p ≡ (eqb (getD (choose marks Y rules) p 0) (suc k) && not (usedIn (account marks Y rules) p))
+unfolding account choose nothingDone
+merit-of marks Y rules p k l = merit-from marks Y p l rules 1 k (suc k) (nothingDone marks Y) (omega arith) (omega arith) (omega (arith, getD-zeros (length marks) p))
