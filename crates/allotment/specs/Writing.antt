@@ -1,21 +1,21 @@
--- What the functions that write the answer area speak of: the seats that two arrays hold, and what a closing place is the largest of.
-use Prim.Native.Nat.{ℕ, suc}
+-- What the functions that write the answer area speak of: the seats that two arrays hold, and who came in by merit.
+use Prim.Native.Nat.{ℕ, _-_}
 use mathlib.Core.Path.{_≡_}
 use mathlib.Core.Bool.{cond}
 use mathlib.Core.List.{List}
-use lib.ListN.{length, getD}
+use lib.Dec.{eqb}
+use lib.ListN.{length, getD, set}
 use Rattle.round.specs.Lists.{tabulate, joined}
-use Rattle.round.specs.Round.{Round}
 use Rattle.round.specs.declared.head.Head.{Head as CodeHead}
 use Rattle.round.specs.Records.{headOf}
 use Rattle.round.specs.Reading.{roundOf}
 use Rattle.round.specs.Read.{asHead}
 use Rattle.round.specs.Refusal.{verdict, passes}
 use Rattle.round.specs.Outcome.{MeritStarts}
-use Rattle.offers.specs.Offers.{candidateOn}
 use Rattle.offers.specs.Process.{Seat, noSeat, seats}
 use Rattle.offers.specs.Held.{HeldIn}
-use Rattle.allotment.specs.Areas.{seatBytes, seatIs}
+use Rattle.offers.specs.Uses.{UsesNoted}
+use Rattle.allotment.specs.Areas.{seatBytes}
 
 -- the seat that two arrays hold for candidate i
 abbrev pub seatHeld : List ℕ → List ℕ → ℕ → Seat
@@ -31,20 +31,23 @@ heldBytes holders steps =
     let list : List Seat = seatsHeld holders steps in
     joined (tabulate (length holders) (λ i. seatBytes (getD list i noSeat)))
 
--- a merit place of institute j, from 1, where the candidate there is seated at its step k, else 0
-unfoldable pub seatedPlace : Round → List Seat → ℕ → ℕ → ℕ → ℕ
-seatedPlace r list j k p = cond (seatIs (getD list (candidateOn r j p) noSeat) (suc j) k) (suc p) 0
+-- the step at which the institute with a number holds candidate i, by three arrays, where it is not for use; else 0
+abbrev pub meritStep : List ℕ → List ℕ → List ℕ → ℕ → ℕ → ℕ
+meritStep holders steps uses institute i =
+    cond (eqb (getD holders i 0) institute) (cond (eqb (getD uses i 0) 0) (getD steps i 0) 0) 0
 
--- an accepted file with its head and its table of merit lists, and two arrays that hold the list of its round
-pub record AnswerKnown (file : List ℕ) (h : CodeHead) (merits holders steps : List ℕ) : Type 0 where
+-- the places with this one for the step with a number from 1, and as they were for 0
+abbrev pub withPlace : ℕ → ℕ → List ℕ → List ℕ
+withPlace step place places = cond (eqb step 0) places (set places (step - 1) place)
+
+-- an accepted file with its table of merit lists, two arrays that hold the list of its round, and one that notes who is seated for use
+pub record ClosingKnown (file merits holders steps uses : List ℕ) : Type 0 where
   pub accepted : verdict file ≡ passes
-  pub head : asHead h ≡ headOf file
   pub table : MeritStarts file merits
   pub list : HeldIn (seats (roundOf file)) holders steps
+  pub noted : UsesNoted (roundOf file) (headOf file .institutes) holders uses
 
--- an accepted file with its table of merit lists, and two arrays with a place for each candidate
-pub record ClosingKnown (file merits holders steps : List ℕ) : Type 0 where
-  pub accepted : verdict file ≡ passes
-  pub table : MeritStarts file merits
-  pub holders-many : length holders ≡ headOf file .candidates
-  pub steps-many : length steps ≡ headOf file .candidates
+-- the same with the head
+pub record AnswerKnown (file : List ℕ) (h : CodeHead) (merits holders steps uses : List ℕ) : Type 0 where
+  pub head : asHead h ≡ headOf file
+  pub closing : ClosingKnown file merits holders steps uses

@@ -1,5 +1,5 @@
 // The bytes of the answer area: the seats, then the closing places.
-use crate::closing::closing_place;
+use crate::closing::closing_places;
 use round::head::Head;
 ghost use mathlib.Core.Path.{_≡_};
 ghost use mathlib.Core.List.{_++_};
@@ -10,7 +10,7 @@ ghost use Rattle.round.specs.Lists.{tabulate, joined};
 ghost use Rattle.round.specs.Records.{headOf};
 ghost use Rattle.round.specs.Reading.{roundOf};
 ghost use Rattle.allotment.specs.Areas.{wordBytes, closingBytes, answerBytes, answerSize};
-ghost use Rattle.allotment.specs.Writing.{seatsHeld, heldBytes, AnswerKnown, ClosingKnown};
+ghost use Rattle.allotment.specs.Writing.{heldBytes, AnswerKnown, ClosingKnown};
 
 // A two-byte number, little-endian.
 fn write_word(area: &mut [u8], at: usize, x: usize)
@@ -39,19 +39,19 @@ fn write_institute(
     merits: &[usize],
     holders: &[u8],
     steps: &[u8],
+    uses: &[u8],
     j: usize,
     area: &mut [u8],
     at: usize,
 )
-    requires { ⌜ ClosingKnown (now file) (now merits) (now holders) (now steps) ⌝ }
+    requires { ⌜ ClosingKnown (now file) (now merits) (now holders) (now steps) (now uses) ⌝ }
     requires { ⌜ j < headOf (now file) .institutes ⌝ }
     requires { ⌜ at + 12 ≤ length (now area) ⌝ }
-    ensures { λ _. ⌜ now (area .exit)
-        ≡ sets (now (area .entry)) at (closingBytes (roundOf (now (file .entry))) (seatsHeld (now (holders .entry)) (now (steps .entry))) j) ⌝ }
+    ensures { λ _. ⌜ now (area .exit) ≡ sets (now (area .entry)) at (closingBytes (roundOf (now (file .entry))) j) ⌝ }
 {
+    let places = closing_places(file, merits, holders, steps, uses, j);
     for k in 0..6 {
-        let place = closing_place(file, merits, holders, steps, j, k + 1);
-        write_word(area, at + 2 * k, place);
+        write_word(area, at + 2 * k, places[k]);
     }
 }
 
@@ -62,31 +62,32 @@ fn write_closings(
     merits: &[usize],
     holders: &[u8],
     steps: &[u8],
+    uses: &[u8],
     area: &mut [u8],
     at: usize,
 )
-    requires { ⌜ ClosingKnown (now file) (now merits) (now holders) (now steps) ⌝ }
+    requires { ⌜ ClosingKnown (now file) (now merits) (now holders) (now steps) (now uses) ⌝ }
     requires { ⌜ institutes ≡ headOf (now file) .institutes ⌝ }
     requires { ⌜ at + 12 * institutes ≤ length (now area) ⌝ }
     ensures { λ _. ⌜ now (area .exit)
-        ≡ sets (now (area .entry)) at
-        (joined (tabulate institutes (closingBytes (roundOf (now (file .entry))) (seatsHeld (now (holders .entry)) (now (steps .entry)))))) ⌝ }
+        ≡ sets (now (area .entry)) at (joined (tabulate institutes (closingBytes (roundOf (now (file .entry)))))) ⌝ }
 {
     for j in 0..institutes {
-        write_institute(file, merits, holders, steps, j, area, at + 12 * j);
+        write_institute(file, merits, holders, steps, uses, j, area, at + 12 * j);
     }
 }
 
-// All that the answer area gets, where both arrays hold the list of the round.
+// All that the answer area gets, where the arrays hold the list of the round and who is seated for use.
 pub fn write_answer(
     file: &[u8],
     h: Head,
     merits: &[usize],
     holders: &[u8],
     steps: &[u8],
+    uses: &[u8],
     answer: &mut [u8],
 )
-    requires { ⌜ AnswerKnown (now file) h (now merits) (now holders) (now steps) ⌝ }
+    requires { ⌜ AnswerKnown (now file) h (now merits) (now holders) (now steps) (now uses) ⌝ }
     requires { ⌜ answerSize (roundOf (now file)) ≤ length (now answer) ⌝ }
     ensures { λ _. ⌜ now (answer .exit)
         ≡ answerBytes (roundOf (now (file .entry))) ++ drop (answerSize (roundOf (now (file .entry)))) (now (answer .entry)) ⌝ }
@@ -98,6 +99,7 @@ pub fn write_answer(
         merits,
         holders,
         steps,
+        uses,
         answer,
         2 * holders.len(),
     );

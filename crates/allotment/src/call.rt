@@ -2,6 +2,7 @@
 use crate::Answer;
 use crate::areas::write_answer;
 use offers::process::run_offers;
+use offers::uses::note_uses;
 use round::clearing::clear;
 use round::clearing::zeros;
 use round::head::Head;
@@ -33,7 +34,7 @@ fn handed(got: Reading) -> Answer
     }
 }
 
-// The offers of a round and its answer area; both arrays are for the seats.
+// The offers of a round and its answer area; two arrays are for the seats, and one for the notes of who is seated for use.
 fn seat_all(
     file: &[u8],
     h: Head,
@@ -41,17 +42,19 @@ fn seat_all(
     merits: &[usize],
     holders: &mut [u8],
     steps: &mut [u8],
+    uses: &mut [u8],
     answer: &mut [u8],
 ) -> usize
     requires { ⌜ AtHand (now file) h (now candidates) (now merits) ⌝ }
-    requires { ⌜ (length (now holders) ≡ h .candidates) × (length (now steps) ≡ h .candidates) ⌝ }
+    requires { ⌜ (length (now holders) ≡ h .candidates) × (length (now steps) ≡ h .candidates) × (length (now uses) ≡ h .candidates) ⌝ }
     requires { ⌜ answerSize (roundOf (now file)) ≤ length (now answer) ⌝ }
     ensures { λ r. ⌜ (r ≡ offersMade (roundOf (now (file .entry))))
         × (now (answer .exit)
         ≡ answerBytes (roundOf (now (file .entry))) ++ drop (answerSize (roundOf (now (file .entry)))) (now (answer .entry))) ⌝ }
 {
     let offers = run_offers(file, h, candidates, merits, holders, steps);
-    write_answer(file, h, merits, holders, steps, answer);
+    note_uses(file, h, candidates, merits, holders, steps, uses);
+    write_answer(file, h, merits, holders, steps, uses, answer);
     offers
 }
 
@@ -83,6 +86,7 @@ fn allot_round(
     }
     let mut holders = zeros();
     let mut steps = zeros();
+    let mut uses = zeros();
     let offers = seat_all(
         file,
         h,
@@ -90,6 +94,7 @@ fn allot_round(
         merits,
         &mut holders[..n],
         &mut steps[..n],
+        &mut uses[..n],
         answer,
     );
     clear(work, 8 * n);

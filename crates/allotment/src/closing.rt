@@ -1,71 +1,65 @@
-// Closing places: the largest merit place among those seated at a step of an institute.
+// Closing places: the largest merit places among those whom the steps of an institute seated in their fill by merit.
 use round::access::merit_length;
 use round::access::merit_place;
 use round::word::wide;
 ghost use mathlib.Core.Path.{_≡_};
-ghost use Prim.Native.Nat.{max, _<_};
-ghost use lib.ListN.{length};
+ghost use Prim.Native.Nat.{_≤_, _<_};
+ghost use lib.ListN.{length, replicate};
 ghost use Rattle.round.specs.Records.{headOf};
 ghost use Rattle.round.specs.Reading.{roundOf};
-ghost use Rattle.round.specs.Access.{instituteOf};
-ghost use Rattle.allotment.specs.Areas.{seatIs, closingPlace};
-ghost use Rattle.allotment.specs.Writing.{seatHeld, seatsHeld, seatedPlace, ClosingKnown};
+ghost use Rattle.allotment.specs.Areas.{closingPlaces};
+ghost use Rattle.allotment.specs.Writing.{meritStep, withPlace, ClosingKnown};
 
-// Whether a candidate, from 0, is seated at a step of an institute.
-fn seated(holders: &[u8], steps: &[u8], i: usize, institute: usize, step: usize) -> bool
-    requires { ⌜ (i < length (now holders)) × (i < length (now steps)) ⌝ }
-    ensures { λ r. ⌜ r ≡ seatIs (seatHeld (now (holders .entry)) (now (steps .entry)) i) institute step ⌝ }
+// The step at which an institute holds a candidate, from 0, whom it did not take for use; else 0.
+fn merit_step(holders: &[u8], steps: &[u8], uses: &[u8], i: usize, institute: usize) -> usize
+    requires { ⌜ (i < length (now holders)) × (i < length (now steps)) × (i < length (now uses)) ⌝ }
+    ensures { λ r. ⌜ r ≡ meritStep (now (holders .entry)) (now (steps .entry)) (now (uses .entry)) institute i ⌝ }
 {
-    wide(holders[i]) == institute && wide(steps[i]) == step
+    if wide(holders[i]) != institute {
+        return 0;
+    }
+    if uses[i] != 0 {
+        return 0;
+    }
+    wide(steps[i])
 }
 
-// A merit place of institute j, from 1, where the candidate there is seated at its step k, else 0.
-fn seated_place(
-    file: &[u8],
-    merits: &[usize],
-    holders: &[u8],
-    steps: &[u8],
-    j: usize,
-    k: usize,
-    p: usize,
-) -> usize
-    requires { ⌜ ClosingKnown (now file) (now merits) (now holders) (now steps) ⌝ }
-    requires { ⌜ j < headOf (now file) .institutes ⌝ }
-    requires { ⌜ p < length (instituteOf (now file) j .merit) ⌝ }
-    ensures { λ r. ⌜ r ≡ seatedPlace (roundOf (now (file .entry))) (seatsHeld (now (holders .entry)) (now (steps .entry))) j k p ⌝ }
+// Nobody came in by merit at any step.
+fn no_places() -> [usize; 6]
+    ensures { λ r. ⌜ r ≡ replicate 6 0 ⌝ }
 {
-    let number = merit_place(file, merits, j, p);
-    if seated(holders, steps, number - 1, j + 1, k) {
-        p + 1
-    } else {
-        0
+    [0usize; 6]
+}
+
+// The place is the last so far of a step, from 1.
+fn keep_place(places: &mut [usize], step: usize, place: usize)
+    requires { ⌜ step ≤ length (now places) ⌝ }
+    ensures { λ _. ⌜ now (places .exit) ≡ withPlace step place (now (places .entry)) ⌝ }
+{
+    if step != 0 {
+        places[step - 1] = place;
     }
 }
 
-// The larger of two places.
-fn larger(a: usize, b: usize) -> usize
-    ensures { λ r. ⌜ r ≡ max a b ⌝ }
-{
-    if a < b { b } else { a }
-}
-
-// The closing place of step k at institute j.
-pub fn closing_place(
+// The closing places of institute j, from 0: going down its merit list, the last place that came in by merit at each step.
+pub fn closing_places(
     file: &[u8],
     merits: &[usize],
     holders: &[u8],
     steps: &[u8],
+    uses: &[u8],
     j: usize,
-    k: usize,
-) -> usize
-    requires { ⌜ ClosingKnown (now file) (now merits) (now holders) (now steps) ⌝ }
+) -> [usize; 6]
+    requires { ⌜ ClosingKnown (now file) (now merits) (now holders) (now steps) (now uses) ⌝ }
     requires { ⌜ j < headOf (now file) .institutes ⌝ }
-    ensures { λ r. ⌜ r ≡ closingPlace (roundOf (now (file .entry))) (seatsHeld (now (holders .entry)) (now (steps .entry))) j k ⌝ }
+    ensures { λ r. ⌜ r ≡ closingPlaces (roundOf (now (file .entry))) j ⌝ }
 {
     let count = merit_length(file, merits, j);
-    let mut last: usize = 0;
+    let mut places = no_places();
     for p in 0..count {
-        last = larger(last, seated_place(file, merits, holders, steps, j, k, p));
+        let number = merit_place(file, merits, j, p);
+        let step = merit_step(holders, steps, uses, number - 1, j + 1);
+        keep_place(&mut places, step, p + 1);
     }
-    last
+    places
 }

@@ -6,13 +6,15 @@ use mathlib.Core.Logic.{_≢_}
 use mathlib.Core.List.{List, [], _∷_}
 use native.Mathlib.Omega.{arith}
 use lib.Dec.{eqb}
-use lib.ListN.{length, getD}
+use lib.ListN.{length, getD, List·getD-eq-default}
 use borrow.Author.Tests.{eqb-true, eq-eqb, ne-eqb}
 use Rattle.round.specs.Round.{StepRule}
-use Rattle.round.proofs.Words.{and-snd, tabulate-at}
-use Rattle.choice.specs.Choice.{Progress, considers, takenAt, advance, advanceAll, nothingDone, choose}
-use Rattle.choice.specs.Account.{StepAccount, tookForUse, tookByMerit, accountOf, accountAt, accountFrom, account, usedIn}
-use Rattle.choice.proofs.Counting.{clash, test, false-unless}
+use Rattle.round.specs.Lists.{greatest}
+use Rattle.round.proofs.Words.{and-snd, length-tabulate, tabulate-at}
+use Rattle.choice.specs.Step.{takenByMerit}
+use Rattle.choice.specs.Choice.{Progress, considers, positionsAt, takenAt, advance, advanceAll, nothingDone, choose}
+use Rattle.choice.specs.Account.{StepAccount, tookForUse, tookByMerit, accountOf, accountAt, accountFrom, account, closingPlace, usedIn}
+use Rattle.choice.proofs.Counting.{clash, test, sameOr, false-unless, greatest-below}
 use Rattle.choice.proofs.Offers.{Offers}
 use Rattle.choice.proofs.Tabulate.{getD-zeros}
 use Rattle.choice.proofs.Filling.{use-taken, merit-is}
@@ -79,7 +81,7 @@ module _ (marks : List ℕ) (Y : Offers) (p : ℕ) (inside : p < length marks) w
       → tookByMerit (accountOf (accountFrom marks Y k rules done) (suc i)) p
       ≡ (eqb (given (advanceAll marks Y k rules done)) m && not (usedIn (accountFrom marks Y k rules done) p))
   unfolding advanceAll accountFrom usedIn
-  merit-from [] k i m done e pos low = let at : suc i - 1 ≡ i = omega arith in rw (ne-eqb (given done) m (λ z. omega arith))
+  merit-from [] k i m done e pos low = rw (ne-eqb (given done) m (λ z. omega arith))
   merit-from (rule ∷ rules) k zero m done e pos low =
       let next = advance marks Y k rule done in
       test (takenAt marks Y k rule done p)
@@ -111,3 +113,40 @@ pub merit-of : (marks : List ℕ) (Y : Offers) (rules : List StepRule) (p k : �
     → tookByMerit (accountOf (account marks Y rules) (suc k)) p ≡ (eqb (getD (choose marks Y rules) p 0) (suc k) && not (usedIn (account marks Y rules) p))
 unfolding account choose nothingDone
 merit-of marks Y rules p k l = merit-from marks Y p l rules 1 k (suc k) (nothingDone marks Y) (omega arith) (omega arith) (omega (arith, getD-zeros (length marks) p))
+
+merits-long : (marks : List ℕ) (Y : Offers) (rules : List StepRule) (k i : ℕ) (done : Progress) → length (accountOf (accountFrom marks Y k rules done) (suc i) .byMerit) ≤ length marks
+unfolding accountFrom accountAt
+merits-long marks Y [] k i done = omega arith
+merits-long marks Y (rule ∷ rules) k zero done = omega (arith, length-tabulate 0 (length marks) (takenByMerit (rule .reserved) marks (considers marks Y rule done) (positionsAt marks Y k rule done)))
+merits-long marks Y (rule ∷ rules) k (suc i) done =
+    let at : suc (suc i) - 1 ≡ suc (suc i - 1) = omega arith in rw at (merits-long marks Y rules (suc k) i (advance marks Y k rule done))
+
+-- an account speaks of the places only
+pub merit-long : (marks : List ℕ) (Y : Offers) (rules : List StepRule) (k : ℕ) → length (accountOf (account marks Y rules) (suc k) .byMerit) ≤ length marks
+unfolding account
+merit-long marks Y rules k = merits-long marks Y rules 1 k (nothingDone marks Y)
+
+module _ (step : StepAccount) where
+  -- a place, from 1, that the step took by merit; else 0
+  abbrev pub meritPlace : ℕ → ℕ
+  meritPlace p = cond (tookByMerit step p) (suc p) 0
+
+  place-most : (p : ℕ) → meritPlace p ≤ suc p
+  place-most p = most (tookByMerit step p)
+    where
+      most : (b : Bool) → cond b (suc p) 0 ≤ suc p
+      most true = omega arith
+      most false = omega arith
+
+  -- the largest among the first n places is one of them
+  pub largest-few : (n : ℕ) → greatest n meritPlace ≤ n
+  largest-few n = greatest-below n meritPlace n (λ p l. omega (arith, place-most p))
+
+  -- the closing place is the largest of any number of places that has all of the account
+  pub closing-largest : (n : ℕ) → length (step .byMerit) ≤ n → closingPlace step ≡ greatest n meritPlace
+  unfolding closingPlace greatest
+  closing-largest zero l = let e : length (step .byMerit) ≡ 0 = omega arith in rw e
+  closing-largest (suc n) l = sameOr (length (step .byMerit)) (suc n) (λ e. rw e)
+      (λ d.
+      let none : tookByMerit step n ≡ false = List·getD-eq-default (step .byMerit) false (omega arith) in
+      closing-largest n (omega arith) ∙ rw none (omega arith))

@@ -1,7 +1,7 @@
 -- One step after the other: what the code keeps after a step is what the definition has done.
 use Prim.Native.Nat.{ℕ, zero, suc, _+_, _*_, _-_, _≤_, _<_}
 use mathlib.Core.Path.{_≡_, refl, sym, ap, _∙_, fun-ext}
-use mathlib.Core.Bool.{Bool, true, false, cond}
+use mathlib.Core.Bool.{Bool, true, false, cond, _||_}
 use mathlib.Core.List.{List, _++_}
 use native.Mathlib.Omega.{arith}
 use native.Mathlib.Numerals.{add-one}
@@ -17,11 +17,12 @@ use Rattle.round.specs.Lists.{tabulate, tabulateFrom}
 use Rattle.round.specs.Rules.{numberIn, ruleIn, rulesIn, RuleTable}
 use Rattle.round.proofs.Words.{length-tabulate, tabulate-at, cleared}
 use Rattle.choice.specs.Choice.{Progress, considers, positionsAt, takenAt, vacantAt, advance, advanceAll, nothingDone, choose}
+use Rattle.choice.specs.Account.{tookForUse, accountAt, accountFrom, account, usedIn, usesIn}
 use Rattle.choice.specs.Offers.{offeredBy, considersBy, Places}
-use Rattle.choice.specs.Fill.{stepGiven, stepVacant}
-use Rattle.choice.specs.Handed.{doneBy, Handing}
+use Rattle.choice.specs.Fill.{stepGiven, stepVacant, stepUses}
+use Rattle.choice.specs.Handed.{doneBy, usesWith, Handing}
 use Rattle.choice.proofs.Counting.{sameOr}
-use Rattle.choice.proofs.Tabulate.{getD-zeros}
+use Rattle.choice.proofs.Tabulate.{tabulate-cong, getD-zeros}
 
 code-back : (code : ℕ) → code < 5 → codeOf (categoryOf code) ≡ code
 code-back zero l = refl
@@ -122,16 +123,20 @@ module _ {types k : ℕ} {rules handed : List ℕ} (t : RuleTable types (suc k) 
       at-most false = omega arith
 
   -- a step of the code is a step of the definition
-  pub step-advances : (marks offers given : List ℕ) {given' : List ℕ} {vacant : ℕ}
+  pub step-advances : (marks offers given uses : List ℕ) {given' uses' : List ℕ} {vacant : ℕ}
       → (given' ≡ stepGiven (k + 1) (take (at + 3 + types - (at + 3)) (drop (at + 3) rules)) marks (considersBy offers given (getD rules at 0)) positions given)
       × (vacant ≡ stepVacant (take (at + 3 + types - (at + 3)) (drop (at + 3) rules)) marks (considersBy offers given (getD rules at 0)) positions)
+      × (uses' ≡ stepUses (take (at + 3 + types - (at + 3)) (drop (at + 3) rules)) marks (considersBy offers given (getD rules at 0)) uses)
       → (doneBy given' (handing-on vacant) ≡ advance marks (offeredBy offers) (suc k) (ruleIn types rules k) (doneBy given handed)) × Handing (suc k) (handing-on vacant)
-  unfolding advance vacantAt takenAt positionsAt considers ruleIn
-  step-advances marks offers given {given'} {vacant} s = (
+      × (uses' ≡ usesWith (length marks) (accountAt marks (offeredBy offers) (suc k) (ruleIn types rules k) (doneBy given handed)) uses)
+  unfolding advance vacantAt takenAt positionsAt considers ruleIn accountAt
+  step-advances marks offers given uses {given'} {uses'} {vacant} s = (
     done-same (advance marks (offeredBy offers) (suc k) (ruleIn types rules k) (doneBy given handed)) given' (handing-on vacant)
         (rw (reserved, coded, add-one) at (s .0))
         (λ j. handed-grows handed (getD rules (at + 1) 0) vacant receiver-low j ∙ rw (rw (reserved, coded, add-one) at (s .1))),
     still-low vacant (omega (arith, s .1)),
+    rw (reserved, coded) at (s .2)
+        ∙ tabulate-cong (length marks) _ _ (λ p l. ap (λ (b : Bool). cond b 1 (getD uses p 0)) (sym (tabulate-at (length marks) _ false p l))),
   )
     where
       coded : getD rules at 0 ≡ codeOf (categoryOf (numberIn types rules k 0))
@@ -140,41 +145,71 @@ module _ {types k : ℕ} {rules handed : List ℕ} (t : RuleTable types (suc k) 
       reserved : take (at + 3 + types - (at + 3)) (drop (at + 3) rules) ≡ tabulate types (λ t. numberIn types rules k (3 + t))
       reserved = let n : at + 3 + types - (at + 3) ≡ types = omega arith in rw n (reserved-part types k rules t)
 
--- after k steps the rest of the rules leads to what all of them lead to from nothing done
-pub record Stepping (marks offers rules : List ℕ) (types count k : ℕ) (steps handed : List ℕ) : Type 0 where
-  pub places : Places marks offers steps
+-- after k steps the rest of the rules leads to what all of them lead to from nothing done, and takes for use whom all of them do who are not
+-- noted yet
+pub record Stepping (marks offers rules : List ℕ) (types count k : ℕ) (steps uses handed : List ℕ) : Type 0 where
+  pub places : Places marks offers steps uses
   pub handing : Handing k handed
   pub rest : advanceAll marks (offeredBy offers) (suc k) (tabulateFrom k (count - k) (ruleIn types rules)) (doneBy steps handed)
       ≡ advanceAll marks (offeredBy offers) 1 (rulesIn types count rules) (nothingDone marks (offeredBy offers))
+  pub rest-used : (p : ℕ) → p < length marks
+      → cond (usedIn (accountFrom marks (offeredBy offers) (suc k) (tabulateFrom k (count - k) (ruleIn types rules)) (doneBy steps handed)) p) 1 (getD uses p 0)
+      ≡ cond (usedIn (account marks (offeredBy offers) (rulesIn types count rules)) p) 1 0
 
-same-places : {marks offers steps steps' : List ℕ} → Places marks offers steps → length steps' ≡ length steps → Places marks offers steps'
-same-places p len = record { few = p .few; offers-each = p .offers-each; steps-each = len ∙ p .steps-each }
+same-places : {marks offers steps steps' uses uses' : List ℕ} → Places marks offers steps uses → length steps' ≡ length steps → length uses' ≡ length uses → Places marks offers steps' uses'
+same-places p len long = record { few = p .few; offers-each = p .offers-each; steps-each = len ∙ p .steps-each; uses-each = long ∙ p .uses-each }
+
+-- a place that is noted, or is taken for use now or later
+noted-on : (b later : Bool) (u : ℕ) → cond later 1 (cond b 1 u) ≡ cond (b || later) 1 u
+noted-on true true u = refl
+noted-on true false u = refl
+noted-on false later u = refl
 
 module _ {marks offers rules : List ℕ} {types count : ℕ} where
-  pub set-out : {steps₀ steps handed : List ℕ} → Places marks offers steps₀ → steps ≡ replicate (length marks) 0 ++ drop (length marks) steps₀ → length steps ≡ length steps₀
-      → handed ≡ replicate 13 0 → Stepping marks offers rules types count 0 steps handed
-  set-out {steps₀} {steps} {handed} places clear len eh = record {
-    places = same-places places len;
-    handing = record { sized = ap length eh; low = λ j. rw (eh, getD-zeros 13 j) (omega arith) };
-    rest =
-        let all : count - 0 ≡ count = omega arith in
-        rw all
-        (ap (advanceAll marks (offeredBy offers) 1 (rulesIn types count rules))
-        (unfold nothingDone in
-        done-same (nothingDone marks (offeredBy offers)) steps handed (cleared _ _ _ clear (len ∙ places .steps-each)) (λ j. rw eh (getD-zeros 13 j))));
-  }
+  pub set-out : {steps₀ steps uses₀ uses handed : List ℕ} → Places marks offers steps₀ uses₀ → steps ≡ replicate (length marks) 0 ++ drop (length marks) steps₀ → length steps ≡ length steps₀
+      → uses ≡ replicate (length marks) 0 ++ drop (length marks) uses₀ → length uses ≡ length uses₀
+      → handed ≡ replicate 13 0 → Stepping marks offers rules types count 0 steps uses handed
+  unfolding nothingDone account
+  set-out {steps₀} {steps} {uses₀} {uses} {handed} places clear len wipe long eh =
+      let all : count - 0 ≡ count = omega arith in
+      let start : doneBy steps handed ≡ nothingDone marks (offeredBy offers) =
+      done-same (nothingDone marks (offeredBy offers)) steps handed (cleared _ _ _ clear (len ∙ places .steps-each)) (λ j. rw eh (getD-zeros 13 j)) in
+      record {
+        places = same-places places len long;
+        handing = record { sized = ap length eh; low = λ j. rw (eh, getD-zeros 13 j) (omega arith) };
+        rest = rw (all, start);
+        rest-used = λ p l. rw (all, start, cleared _ _ _ wipe (long ∙ places .uses-each), getD-zeros (length marks) p);
+      }
 
-  pub go-on : {k : ℕ} {steps handed steps' handed' : List ℕ} → k < count → Stepping marks offers rules types count k steps handed → length steps' ≡ length steps
+  pub go-on : {k : ℕ} {steps uses handed steps' uses' handed' : List ℕ} → k < count → Stepping marks offers rules types count k steps uses handed → length steps' ≡ length steps → length uses' ≡ length uses
       → (doneBy steps' handed' ≡ advance marks (offeredBy offers) (suc k) (ruleIn types rules k) (doneBy steps handed)) × Handing (suc k) handed'
-      → Stepping marks offers rules types count (k + 1) steps' handed'
-  unfolding advanceAll
-  go-on {k} l g len s = rw add-one record {
-    places = same-places (g .places) len;
-    handing = s .1;
-    rest = rw (s .0) (let more : count - k ≡ suc (count - suc k) = omega arith in rw more at (g .rest));
-  }
+      × (uses' ≡ usesWith (length marks) (accountAt marks (offeredBy offers) (suc k) (ruleIn types rules k) (doneBy steps handed)) uses)
+      → Stepping marks offers rules types count (k + 1) steps' uses' handed'
+  unfolding advanceAll accountFrom usedIn
+  go-on {k} {steps} {uses} {handed} l g len long s =
+      let more : count - k ≡ suc (count - suc k) = omega arith in
+      let rule = ruleIn types rules k in
+      let step = accountAt marks (offeredBy offers) (suc k) rule (doneBy steps handed) in
+      let later = accountFrom marks (offeredBy offers) (suc (suc k)) (tabulateFrom (suc k) (count - suc k) (ruleIn types rules)) (advance marks (offeredBy offers) (suc k) rule (doneBy steps handed)) in
+      rw add-one
+      record {
+        places = same-places (g .places) len long;
+        handing = s .1;
+        rest = rw (s .0) (rw more at (g .rest));
+        rest-used = λ p l.
+            rw (s .0, s .2, tabulate-at (length marks) (λ q. cond (tookForUse step q) 1 (getD uses q 0)) 0 p l)
+            (noted-on (tookForUse step p) (usedIn later p) (getD uses p 0) ∙ (rw more at (g .rest-used p l)));
+      }
 
-  pub arrive : {k : ℕ} {steps handed : List ℕ} → count ≤ k → Stepping marks offers rules types count k steps handed
-      → steps ≡ choose marks (offeredBy offers) (rulesIn types count rules)
-  unfolding choose advanceAll
-  arrive {k} l g = let none : count - k ≡ 0 = omega arith in ap (λ (done : Progress). done .given) (rw none at (g .rest))
+  pub arrive : {k : ℕ} {steps uses handed : List ℕ} → count ≤ k → Stepping marks offers rules types count k steps uses handed
+      → (steps ≡ choose marks (offeredBy offers) (rulesIn types count rules))
+      × (uses ≡ usesIn (length marks) (account marks (offeredBy offers) (rulesIn types count rules)))
+  unfolding choose advanceAll accountFrom usedIn usesIn
+  arrive {k} l g =
+      let none : count - k ≡ 0 = omega arith in (
+        ap (λ (done : Progress). done .given) (rw none at (g .rest)),
+        ext-getD 0 _ _ (g .places .uses-each ∙ sym (length-tabulate 0 (length marks) _))
+            (λ p l.
+            let inside : p < length marks = omega (arith, g .places .uses-each) in
+            (rw none at (g .rest-used p inside)) ∙ sym (tabulate-at (length marks) _ 0 p inside)),
+      )

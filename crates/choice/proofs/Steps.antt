@@ -15,7 +15,7 @@ use Rattle.round.specs.Category.{codeOf}
 use Rattle.choice.specs.Step.{takenForUse, remaining, takenByMerit, taken}
 use Rattle.choice.specs.Offers.{Places}
 use Rattle.choice.specs.Taken.{Took}
-use Rattle.choice.specs.Fill.{restAt, fillsAt, seatsAt, numbered, stepGiven, stepVacant}
+use Rattle.choice.specs.Fill.{typedAt, restAt, fillsAt, seatsAt, numbered, stepGiven, stepVacant, stepUses}
 use Rattle.choice.proofs.Counting.{lessOr, count-ext}
 use Rattle.choice.proofs.Tabulate.{tabulate-cong}
 
@@ -133,13 +133,16 @@ module _ (reserved marks placed : List ℕ) (X : ℕ → Bool) (positions used :
       merit = unfold takenByMerit in left-same (remaining reserved marks X) (count n H) positions n .1
 
 -- what filling says of the types and the positions left is what the step says
-pub step-done : {reserved marks offers placed placed′ given steps : List ℕ} {X : ℕ → Bool} (number positions : ℕ) {used free filled vacant : ℕ}
-    → Places marks offers given → Took reserved marks placed X used → placed′ ≡ placed → free ≡ positions - used
-    → (steps ≡ numbered (length given) number (seatsAt placed′ X free) given) × (filled ≡ min free (count (length given) (restAt placed′ X))) → vacant ≡ free - filled
+pub step-done : {reserved marks offers placed placed′ given steps uses₀ uses : List ℕ} {X : ℕ → Bool} (number positions : ℕ) {used free filled vacant : ℕ}
+    → Places marks offers given uses₀ → Took reserved marks placed X used → placed′ ≡ placed → free ≡ positions - used
+    → (steps ≡ numbered (length given) number (seatsAt placed′ X free) given) × (filled ≡ min free (count (length given) (restAt placed′ X)))
+    × (uses ≡ numbered (length given) 1 (typedAt placed′) uses₀) → vacant ≡ free - filled
     → (steps ≡ stepGiven number reserved marks X positions given) × (vacant ≡ stepVacant reserved marks X positions)
-step-done {reserved} {marks} {placed = placed} {given = given} {X = X} number positions {used} {free} {filled} {vacant} p k same left f v = (
+    × (uses ≡ stepUses reserved marks X uses₀)
+step-done {reserved} {marks} {placed = placed} {given = given} {uses₀ = uses₀} {X = X} number positions {used} {free} {filled} {vacant} p k same left f v = (
   rw (same, p .steps-each, left) at (f .0) ∙ numbered-same (length marks) number _ _ given (seats-same reserved marks placed X positions used k),
   vacant-same reserved marks placed X positions used k free filled vacant left (rw (same, p .steps-each) at (f .1)) v,
+  rw (same, p .steps-each) at (f .2) ∙ numbered-same (length marks) 1 _ _ uses₀ (λ q l. sym (k .each q l)),
 )
 
 pub code-small : (x : Category) → codeOf x ≤ 4

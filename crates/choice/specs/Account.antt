@@ -5,7 +5,7 @@ use mathlib.Core.List.{List, [], _∷_}
 use lib.ListN.{length, getD}
 use Rattle.round.specs.declared.entry.Category.{Category}
 use Rattle.round.specs.Round.{StepRule}
-use Rattle.round.specs.Lists.{tabulate}
+use Rattle.round.specs.Lists.{tabulate, greatest}
 use Rattle.choice.specs.Step.{takenForUse, takenByMerit}
 use Rattle.choice.specs.Choice.{Progress, considers, positionsAt, vacantAt, advance, nothingDone}
 
@@ -48,6 +48,10 @@ module _ (marks : List ℕ) (offered : ℕ → Category → Bool) where
   -- the account of the choice
   unfoldable pub account : List StepRule → List StepAccount
   account rules = accountFrom 1 rules (nothingDone marks offered)
+
+-- document 02's closing place (Point 1): the largest place, from 1, among those whom the step seated in its fill by merit, 0 if nobody
+unfoldable pub closingPlace : StepAccount → ℕ
+closingPlace step = greatest (length (step .byMerit)) (λ p. cond (tookByMerit step p) (suc p) 0)
 
 -- some step took place p for use
 unfoldable pub usedIn : List StepAccount → ℕ → Bool

@@ -1,32 +1,39 @@
 -- The places that a step gives its number to, by the types given on the way down and the positions left (document 01, "One
--- institute chooses": "Then fill the remaining positions by merit with those left, marked or not.").
+-- institute chooses": "Then fill the remaining positions by merit with those left, marked or not."), and the note of those taken for use.
 use Prim.Native.Nat.{ℕ, _-_}
 use mathlib.Core.Bool.{Bool, cond, not, _&&_, _||_}
 use mathlib.Core.List.{List}
 use lib.Dec.{ltb}
 use lib.ListN.{length, getD}
 use Rattle.round.specs.Lists.{tabulate, count}
-use Rattle.choice.specs.Step.{taken}
+use Rattle.choice.specs.Step.{takenForUse, taken}
+
+-- given a type
+abbrev pub typedAt : List ℕ → ℕ → Bool
+typedAt placed p = ltb 0 (getD placed p 0)
 
 -- considered, and given no type
 abbrev pub restAt : List ℕ → (ℕ → Bool) → ℕ → Bool
-restAt placed considered p = considered p && not (ltb 0 (getD placed p 0))
+restAt placed considered p = considered p && not (typedAt placed p)
 
 -- the better ones of the rest leave a position
 abbrev pub fillsAt : List ℕ → (ℕ → Bool) → ℕ → ℕ → Bool
 fillsAt placed considered free p = restAt placed considered p && ltb (count p (restAt placed considered)) free
 
 abbrev pub seatsAt : List ℕ → (ℕ → Bool) → ℕ → ℕ → Bool
-seatsAt placed considered free p = ltb 0 (getD placed p 0) || fillsAt placed considered free p
+seatsAt placed considered free p = typedAt placed p || fillsAt placed considered free p
 
--- the steps with this number at the places of the set
+-- the list with this number at the places of the set
 abbrev pub numbered : ℕ → ℕ → (ℕ → Bool) → List ℕ → List ℕ
 numbered n number X given = tabulate n (λ p. cond (X p) number (getD given p 0))
 
--- the steps after one step, and the positions that it leaves vacant
+-- the steps after one step, the positions that it leaves vacant, and the note of those taken for use
 abbrev pub stepGiven : ℕ → List ℕ → List ℕ → (ℕ → Bool) → ℕ → List ℕ → List ℕ
 stepGiven number reserved marks considered positions given =
     numbered (length marks) number (taken reserved marks considered positions) given
 
 abbrev pub stepVacant : List ℕ → List ℕ → (ℕ → Bool) → ℕ → ℕ
 stepVacant reserved marks considered positions = positions - count (length marks) (taken reserved marks considered positions)
+
+abbrev pub stepUses : List ℕ → List ℕ → (ℕ → Bool) → List ℕ → List ℕ
+stepUses reserved marks considered uses = numbered (length marks) 1 (takenForUse reserved marks considered) uses

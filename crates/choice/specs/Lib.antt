@@ -2,9 +2,9 @@ pub mod Use
 pub mod Step
 pub mod Choice
 pub mod Account
-pub mod Handed
 pub mod Offers
 pub mod Search
 pub mod Taken
 pub mod Fill
+pub mod Handed
 pub mod Gathers

@@ -8,11 +8,12 @@ use round::clearing::clear;
 use step::step;
 ghost use mathlib.Core.Path.{_≡_};
 ghost use Prim.Native.Nat.{suc};
-ghost use lib.ListN.{replicate};
+ghost use lib.ListN.{length, replicate};
 ghost use Rattle.round.specs.Rules.{ruleIn, rulesIn, RuleTable};
 ghost use Rattle.choice.specs.Choice;
+ghost use Rattle.choice.specs.Account.{accountAt, account, usesIn};
 ghost use Rattle.choice.specs.Offers.{offeredBy, Places};
-ghost use Rattle.choice.specs.Handed.{doneBy, Handing};
+ghost use Rattle.choice.specs.Handed.{doneBy, usesWith, Handing};
 
 // Nothing handed to anybody.
 fn none_handed() -> [usize; 13]
@@ -30,12 +31,14 @@ fn next_step(
     offers: &[u8],
     handed: &mut [usize],
     steps: &mut [u8],
+    uses: &mut [u8],
 )
     requires { ⌜ RuleTable types (suc k) (now rules) ⌝ }
     requires { ⌜ Handing k (now handed) ⌝ }
-    requires { ⌜ Places (now marks) (now offers) (now steps) ⌝ }
+    requires { ⌜ Places (now marks) (now offers) (now steps) (now uses) ⌝ }
     ensures { λ _. ⌜ (doneBy (now (steps .exit)) (now (handed .exit)) ≡ Choice.advance (now (marks .entry)) (offeredBy (now (offers .entry))) (suc k) (ruleIn types (now (rules .entry)) k) (doneBy (now (steps .entry)) (now (handed .entry))))
-        × Handing (suc k) (now (handed .exit)) ⌝ }
+        × Handing (suc k) (now (handed .exit))
+        × (now (uses .exit) ≡ usesWith (length (now (marks .entry))) (accountAt (now (marks .entry)) (offeredBy (now (offers .entry))) (suc k) (ruleIn types (now (rules .entry)) k) (doneBy (now (steps .entry)) (now (handed .entry)))) (now (uses .entry))) ⌝ }
 {
     let at = k * (3 + types);
     let code = rules[at];
@@ -52,11 +55,13 @@ fn next_step(
         marks,
         offers,
         steps,
+        uses,
     );
     handed[receiver] += vacant;
 }
 
-// The step at which each place is taken, 0 for none, from so many rows of a table of rules, the marks and the offers at the places.
+// The step at which each place is taken, 0 for none, and whether for use, 1 or 0, from so many rows of a table of rules, the marks and the
+// offers at the places.
 pub fn choose(
     rules: &[usize],
     types: usize,
@@ -64,14 +69,17 @@ pub fn choose(
     marks: &[u8],
     offers: &[u8],
     steps: &mut [u8],
+    uses: &mut [u8],
 )
     requires { ⌜ RuleTable types count (now rules) ⌝ }
-    requires { ⌜ Places (now marks) (now offers) (now steps) ⌝ }
-    ensures { λ _. ⌜ now (steps .exit) ≡ Choice.choose (now (marks .entry)) (offeredBy (now (offers .entry))) (rulesIn types count (now (rules .entry))) ⌝ }
+    requires { ⌜ Places (now marks) (now offers) (now steps) (now uses) ⌝ }
+    ensures { λ _. ⌜ (now (steps .exit) ≡ Choice.choose (now (marks .entry)) (offeredBy (now (offers .entry))) (rulesIn types count (now (rules .entry))))
+        × (now (uses .exit) ≡ usesIn (length (now (marks .entry))) (account (now (marks .entry)) (offeredBy (now (offers .entry))) (rulesIn types count (now (rules .entry))))) ⌝ }
 {
     clear(steps, marks.len());
+    clear(uses, marks.len());
     let mut handed = none_handed();
     for k in 0..count {
-        next_step(rules, types, k, marks, offers, &mut handed, steps);
+        next_step(rules, types, k, marks, offers, &mut handed, steps, uses);
     }
 }

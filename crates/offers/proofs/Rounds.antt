@@ -14,6 +14,7 @@ pub mod AtEnd
 pub mod Standing
 pub mod Given
 pub mod StableRound
+pub mod AccountRound
 pub mod TruthfulRound
 pub mod Bounds
 pub mod AnyOrder

@@ -6,3 +6,4 @@ pub mod Standing
 pub mod Stable
 pub mod Held
 pub mod Sweeps
+pub mod Uses

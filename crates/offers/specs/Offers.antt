@@ -2,7 +2,7 @@
 -- An offer is a candidate with one entry of that candidate's row. A set of offers to an institute says of candidate i, from 0, and a category
 -- whether i's entry there is in the set; that each is of the row is said where it matters.
 use Prim.Native.Nat.{ℕ, suc, _-_}
-use mathlib.Core.Bool.{Bool, not, _&&_}
+use mathlib.Core.Bool.{Bool, cond, not, _&&_}
 use mathlib.Core.List.{List, map}
 use lib.Dec.{eqb}
 use lib.ListN.{length, getD}
@@ -10,6 +10,7 @@ use Rattle.round.specs.declared.entry.Category.{Category}
 use Rattle.round.specs.Lists.{first}
 use Rattle.round.specs.Round.{Round}
 use Rattle.choice.specs.Choice.{choose}
+use Rattle.choice.specs.Account.{StepAccount, account, usedIn}
 use Rattle.round.specs.Places.{candidateAt, instituteAt, meritAt}
 use Rattle.offers.specs.Rows.{sameCategory, categoryAt}
 
@@ -26,16 +27,29 @@ module _ (r : Round) (j : ℕ) where
   placeOn i =
       first (length (instituteAt r j .merit)) (λ p. eqb (meritAt (instituteAt r j) p) (suc i))
 
+  -- the marks at each place of the merit list
+  abbrev pub marksOn : List ℕ
+  marksOn = map (λ number. candidateAt r (number - 1) .marks) (instituteAt r j .merit)
+
+  -- the offers of the candidates at the places
+  abbrev pub atPlaces : OfferSet → ℕ → Category → Bool
+  atPlaces offers p c = offers (candidateOn p) c
+
   -- the step that each place of the merit list is given when institute j chooses from a set of offers
   unfoldable pub stepsOn : OfferSet → List ℕ
-  stepsOn offers =
-      choose (map (λ number. candidateAt r (number - 1) .marks) (instituteAt r j .merit))
-      (λ p c. offers (candidateOn p) c)
-      (instituteAt r j .steps)
+  stepsOn offers = choose marksOn (atPlaces offers) (instituteAt r j .steps)
+
+  -- the account of that choice
+  unfoldable pub accountOn : OfferSet → List StepAccount
+  accountOn offers = account marksOn (atPlaces offers) (instituteAt r j .steps)
 
   -- the step at which institute j takes candidate i, 0 for none: whoever is absent from its merit list is unacceptable
   unfoldable pub stepFor : OfferSet → ℕ → ℕ
   stepFor offers i = getD (stepsOn offers) (placeOn i) 0
+
+  -- 1 where institute j takes candidate i for use, else 0
+  unfoldable pub usedFor : OfferSet → ℕ → ℕ
+  usedFor offers i = cond (usedIn (accountOn offers) (placeOn i)) 1 0
 
   -- the offers that institute j takes
   unfoldable pub takenFrom : OfferSet → OfferSet

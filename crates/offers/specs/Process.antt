@@ -7,8 +7,9 @@ use lib.Dec.{eqb, ltb}
 use lib.ListN.{length, getD, set, replicate}
 use Rattle.round.specs.Lists.{tabulate, first, sum}
 use Rattle.round.specs.Round.{Round}
+use Rattle.choice.specs.Account.{StepAccount}
 use Rattle.offers.specs.Rows.{rowAt, rankIn, entryOf}
-use Rattle.offers.specs.Offers.{OfferSet, stepsOn, placeOn}
+use Rattle.offers.specs.Offers.{OfferSet, stepsOn, accountOn, placeOn}
 
 -- document 01's seat: the number of an institute and a step; 0 and 0 for none
 pub record Seat : Type 0 where
@@ -76,3 +77,7 @@ module _ (r : Round) where
   -- document 01's list: the seat of each candidate
   unfoldable pub seats : List Seat
   seats = seatsAfter tried
+
+  -- the account of institute j's choice from all offers ever made to it, when the process has ended
+  unfoldable pub accountAtEnd : ℕ → List StepAccount
+  accountAtEnd j = accountOn r j (madeTo tried j)

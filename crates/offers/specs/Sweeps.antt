@@ -1,7 +1,7 @@
 -- The process in sweeps: everybody who may offer offers the best untried entry, each once, and then each institute that got an offer chooses
 -- from the entries tried last that name it. The code's tables have, for each candidate, how many entries were tried, the number of the
 -- institute of the last one (0 for none), the set of its category (bit c for code c), and the step, 0 for none.
-use Prim.Native.Nat.{ℕ, suc, _-_, _^_, _<_}
+use Prim.Native.Nat.{ℕ, suc, _-_, _^_, _≤_, _<_}
 use mathlib.Core.Path.{_≡_}
 use mathlib.Core.Logic.{_≢_}
 use mathlib.Core.Bool.{Bool, true, cond, not, _&&_}
@@ -16,7 +16,7 @@ use Rattle.round.specs.Places.{candidateAt, instituteAt, entryAt}
 use Rattle.choice.specs.Use.{holds}
 use Rattle.choice.specs.Gathers.{Gathers}
 use Rattle.offers.specs.Rows.{rowAt, rankIn, entryOf}
-use Rattle.offers.specs.Offers.{OfferSet, candidateOn, placeOn, stepFor}
+use Rattle.offers.specs.Offers.{OfferSet, candidateOn, placeOn, stepFor, usedFor}
 use Rattle.offers.specs.Process.{candidateCount}
 
 -- the offers to institute j among the entries that the candidates tried last
@@ -99,11 +99,25 @@ module _ (r : Round) (j : ℕ) where
   unfoldable pub takesPart : (ℕ → ℕ) → ℕ → Bool
   takesPart offer c = ltb (placeOn r j c) (length (instituteAt r j .merit)) && not (eqb (offer c) 0)
 
-  -- institute j has chosen from the last offers that were made to it: who takes part has the step chosen there, everybody else that from before
-  pub record ChosenAnew (asked wanted steps₀ steps : List ℕ) : Type 0 where
-    pub many : length steps ≡ length steps₀
-    pub step : (c : ℕ) → c < candidateCount r → getD steps c 0
-        ≡ cond (takesPart (offerTo (suc j) asked wanted) c) (stepFor r j (offersBy (offerTo (suc j) asked wanted)) c) (getD steps₀ c 0)
+  -- the first k of a list are those who take part, each once; further lists have for each the step that institute j gives, and whether it is
+  -- for use
+  pub record ChosenListed (offer : ℕ → ℕ) (who chosen uses : List ℕ) (k : ℕ) : Type 0 where
+    pub few : k ≤ 512
+    pub apart : Apart who (candidateCount r) k
+    pub part : (q : ℕ) → q < k → takesPart offer (getD who q 0) ≡ true
+    pub each : (c : ℕ) → takesPart offer c ≡ true → (q : ℕ) × (q < k) × (getD who q 0 ≡ c)
+    pub chosen-at : (q : ℕ) → q < k → getD chosen q 0 ≡ stepFor r j (offersBy offer) (getD who q 0)
+    pub used-at : (q : ℕ) → q < k → getD uses q 0 ≡ usedFor r j (offersBy offer) (getD who q 0)
+
+  -- a table has these values for those who take part, and for everybody else what stood there
+  pub record PutFor (offer value : ℕ → ℕ) (before after : List ℕ) : Type 0 where
+    pub many : length after ≡ length before
+    pub at : (c : ℕ) → c < candidateCount r → getD after c 0 ≡ cond (takesPart offer c) (value c) (getD before c 0)
+
+  -- institute j has chosen from the last offers that were made to it
+  abbrev pub ChosenAnew : List ℕ → List ℕ → List ℕ → List ℕ → Type 0
+  ChosenAnew asked wanted steps₀ steps =
+      PutFor (offerTo (suc j) asked wanted) (stepFor r j (offersBy (offerTo (suc j) asked wanted))) steps₀ steps
 
 -- of the first k institutes each that got an offer has chosen
 pub record ChosenAll (r : Round) (asked wanted fresh : List ℕ) (k : ℕ) (steps₀ steps : List ℕ) : Type 0 where

@@ -1,4 +1,5 @@
-// The second half of a sweep: each institute that got an offer chooses from the entries tried last that name it.
+// One institute chooses from the offers that two tables have: for each candidate the institute that is asked, and a set of categories. In
+// the second half of a sweep each institute that got an offer does, from the entries tried last that name it.
 use crate::gather::gather;
 use crate::scatter::scatter;
 use crate::table::nobody;
@@ -9,13 +10,61 @@ use round::head::Head;
 use round::rules::rule_table;
 use round::rules::rules_of;
 ghost use mathlib.Core.Path.{_≡_};
-ghost use Prim.Native.Nat.{_<_};
+ghost use Prim.Native.Nat.{suc, _≤_, _<_};
 ghost use lib.ListN.{length};
 ghost use Rattle.round.specs.Reading.{roundOf};
 ghost use Rattle.offers.specs.Held.{AtHand};
-ghost use Rattle.offers.specs.Sweeps.{ChosenAnew, ChosenAll};
+ghost use Rattle.offers.specs.Sweeps.{offerTo, ChosenListed, ChosenAnew, ChosenAll};
 
-// Institute j, from 0, chooses.
+// Institute j, from 0, chooses: lists who takes part, the step of each and whether it is for use, and returns their number.
+pub fn choose_listed(
+    file: &[u8],
+    h: Head,
+    candidates: &[usize],
+    merits: &[usize],
+    j: usize,
+    asked: &[u8],
+    wanted: &[u8],
+    who: &mut [u16],
+    chosen: &mut [u8],
+    uses: &mut [u8],
+) -> usize
+    requires { ⌜ AtHand (now file) h (now candidates) (now merits) ⌝ }
+    requires { ⌜ j < h .institutes ⌝ }
+    requires { ⌜ (length (now asked) ≡ h .candidates) × (length (now wanted) ≡ h .candidates) ⌝ }
+    requires { ⌜ (512 ≤ length (now who)) × (512 ≤ length (now chosen)) × (512 ≤ length (now uses)) ⌝ }
+    ensures { λ k. ⌜ ChosenListed (roundOf (now (file .entry))) j (offerTo (suc j) (now (asked .entry)) (now (wanted .entry)))
+        (now (who .exit)) (now (chosen .exit)) (now (uses .exit)) k ⌝ }
+{
+    let mut marks = zeros();
+    let mut offers = zeros();
+    let mut rules = rule_table();
+    let k = gather(
+        file,
+        candidates,
+        merits,
+        j,
+        asked,
+        wanted,
+        who,
+        &mut marks,
+        &mut offers,
+    );
+    let body = institute_body(file, h, j);
+    let count = rules_of(body, h.types, h.policy, &mut rules);
+    choose(
+        &rules,
+        h.types,
+        count,
+        &marks[..k],
+        &offers[..k],
+        &mut chosen[..k],
+        &mut uses[..k],
+    );
+    k
+}
+
+// Institute j, from 0, chooses, and the steps of those who take part are put into the table.
 fn choose_anew(
     file: &[u8],
     h: Head,
@@ -33,30 +82,19 @@ fn choose_anew(
         (now (steps .entry)) (now (steps .exit)) ⌝ }
 {
     let mut who = nobody();
-    let mut marks = zeros();
-    let mut offers = zeros();
     let mut chosen = zeros();
-    let mut rules = rule_table();
-    let k = gather(
+    let mut uses = zeros();
+    let k = choose_listed(
         file,
+        h,
         candidates,
         merits,
         j,
         asked,
         wanted,
         &mut who,
-        &mut marks,
-        &mut offers,
-    );
-    let body = institute_body(file, h, j);
-    let count = rules_of(body, h.types, h.policy, &mut rules);
-    choose(
-        &rules,
-        h.types,
-        count,
-        &marks[..k],
-        &offers[..k],
-        &mut chosen[..k],
+        &mut chosen,
+        &mut uses,
     );
     scatter(&who[..k], &chosen[..k], steps);
 }

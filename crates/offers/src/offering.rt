@@ -29,7 +29,7 @@ fn may_try(file: &[u8], candidates: &[usize], tried: &[u8], steps: &[u8], i: usi
 }
 
 // The set of one category: the bit of its code.
-fn only(category: Category) -> u8
+pub fn only(category: Category) -> u8
     ensures { λ r. ⌜ r ≡ 2 ^ codeOf category ⌝ }
 {
     1 << code_of(category)

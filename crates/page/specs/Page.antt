@@ -1,5 +1,5 @@
--- What the program prints for a round file, byte by byte (document 01, "Worked rounds").
-use Prim.Native.Nat.{ℕ, suc, _+_}
+-- What the program prints for a round file, byte by byte (document 01, "Worked rounds"; document 02, Point 1).
+use Prim.Native.Nat.{ℕ, _+_}
 use mathlib.Core.List.{List, _++_}
 use lib.ListN.{getD}
 use Rattle.round.specs.Lists.{tabulate, joined}
@@ -7,7 +7,7 @@ use Rattle.round.specs.Round.{Round}
 use Rattle.round.specs.Reading.{roundOf}
 use Rattle.round.specs.Refusal.{Verdict, passes, refused, verdict}
 use Rattle.offers.specs.Process.{Seat, noSeat, candidateCount, instituteCount, offersMade, seats}
-use Rattle.allotment.specs.Areas.{closingPlace}
+use Rattle.allotment.specs.Areas.{closingPlaces}
 use Rattle.text.specs.Ascii.{ascii}
 use Rattle.text.specs.Decimal.{decimal, nextNumber, named}
 
@@ -38,7 +38,7 @@ page r =
     let list : List Seat = seats r in
     offersLine (offersMade r)
     ++ joined (tabulate (candidateCount r) (λ i. seatLine (i + 1) (getD list i noSeat)))
-    ++ joined (tabulate (instituteCount r) (λ j. closingLine (j + 1) (λ k. closingPlace r list j (suc k))))
+    ++ joined (tabulate (instituteCount r) (λ j. let places : List ℕ = closingPlaces r j in closingLine (j + 1) (λ k. getD places k 0)))
 
 abbrev pub printedBy : Verdict → Round → List ℕ
 printedBy passes r = page r

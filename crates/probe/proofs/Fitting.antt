@@ -1,53 +1,55 @@
--- What it says that lengths fit together, and what the steps are where they do and where they do not.
+-- What it says that lengths fit together, and what the steps and the notes of use are where they do and where they do not.
 -- Assumes nothing.
 use Prim.Native.Nat.{ℕ, _+_, _*_}
-use mathlib.Core.Path.{_≡_, ap}
+use mathlib.Core.Path.{_≡_, ap, _∙_}
 use mathlib.Core.Bool.{true, false, _&&_}
 use mathlib.Core.List.{List}
 use lib.Dec.{leb, eqb}
 use lib.ListN.{length}
 use borrow.Author.Tests.{leb-true, eqb-true}
 use Rattle.round.specs.Read.{InstituteBody}
-use Rattle.round.specs.Reading.{stepsIn}
+use Rattle.round.specs.Round.{StepRule}
 use Rattle.round.specs.Rules.{rulesIn, RulesRead}
 use Rattle.round.proofs.Words.{and-fst, and-snd}
 use Rattle.choice.specs.Offers.{offeredBy, Places}
 use Rattle.choice.specs.Choice.{choose}
-use Rattle.probe.specs.Probe.{fitting, stepsAfter}
+use Rattle.choice.specs.Account.{account, usesIn}
+use Rattle.probe.specs.Probe.{fitting, Chosen}
 
-module _ (body : List ℕ) (types policy : ℕ) (marks offers before : List ℕ) where
-  pub fitted : fitting types (length body) (length marks) (length offers) (length before) ≡ true → InstituteBody types body × Places marks offers before
+module _ (body : List ℕ) (types policy : ℕ) (marks offers steps uses : List ℕ) where
+  pub fitted : fitting types (length body) (length marks) (length offers) (length steps) (length uses) ≡ true → InstituteBody types body × Places marks offers steps uses
   fitted e =
       let a = leb types 8 in
       let b = eqb (length body) (10 + 10 * types) in
       let c = leb (length marks) 512 in
       let d = eqb (length offers) (length marks) in
-      let f = eqb (length before) (length marks) in
-      let bf : (b && (c && (d && f))) ≡ true = and-snd a (b && (c && (d && f))) e in
-      let cf : (c && (d && f)) ≡ true = and-snd b (c && (d && f)) bf in
-      let df : (d && f) ≡ true = and-snd c (d && f) cf in (
+      let f = eqb (length steps) (length marks) in
+      let g = eqb (length uses) (length marks) in
+      let bg : (b && (c && (d && (f && g)))) ≡ true = and-snd a (b && (c && (d && (f && g)))) e in
+      let cg : (c && (d && (f && g))) ≡ true = and-snd b (c && (d && (f && g))) bg in
+      let dg : (d && (f && g)) ≡ true = and-snd c (d && (f && g)) cg in
+      let fg : (f && g) ≡ true = and-snd d (f && g) dg in (
         record {
-          types-most = leb-true types 8 (and-fst a (b && (c && (d && f))) e);
-          long = eqb-true (length body) (10 + 10 * types) (and-fst b (c && (d && f)) bf);
+          types-most = leb-true types 8 (and-fst a (b && (c && (d && (f && g)))) e);
+          long = eqb-true (length body) (10 + 10 * types) (and-fst b (c && (d && (f && g))) bg);
         },
         record {
-          few = leb-true (length marks) 512 (and-fst c (d && f) cf);
-          offers-each = eqb-true (length offers) (length marks) (and-fst d f df);
-          steps-each = eqb-true (length before) (length marks) (and-snd d f df);
+          few = leb-true (length marks) 512 (and-fst c (d && (f && g)) cg);
+          offers-each = eqb-true (length offers) (length marks) (and-fst d (f && g) dg);
+          steps-each = eqb-true (length steps) (length marks) (and-fst f g fg);
+          uses-each = eqb-true (length uses) (length marks) (and-snd f g fg);
         },
       )
 
-  -- the steps of the rules that the body gives
-  pub rules-chosen : (table : List ℕ) (count : ℕ) → RulesRead types policy body table count
-      → choose marks (offeredBy offers) (rulesIn types count table) ≡ choose marks (offeredBy offers) (stepsIn types policy body)
-  rules-chosen table count r = ap (choose marks (offeredBy offers)) (r .rules-of)
+  -- the steps and notes of the rules that the body gives
+  pub chosen : {steps' uses' : List ℕ} (table : List ℕ) (count : ℕ) → fitting types (length body) (length marks) (length offers) (length steps) (length uses) ≡ true
+      → RulesRead types policy body table count
+      → (steps' ≡ choose marks (offeredBy offers) (rulesIn types count table)) × (uses' ≡ usesIn (length marks) (account marks (offeredBy offers) (rulesIn types count table)))
+      → Chosen body types policy marks offers steps uses steps' uses'
+  chosen table count e r c = record {
+    stepsNow = rw e (c .0 ∙ ap (choose marks (offeredBy offers)) (r .rules-of));
+    usesNow = rw e (c .1 ∙ ap (λ (rules : List StepRule). usesIn (length marks) (account marks (offeredBy offers) rules)) (r .rules-of));
+  }
 
-  pub steps-chosen : fitting types (length body) (length marks) (length offers) (length before) ≡ true
-      → stepsAfter body types policy marks offers before ≡ choose marks (offeredBy offers) (stepsIn types policy body)
-  unfolding stepsAfter
-  steps-chosen e = rw e
-
-  pub steps-stay : fitting types (length body) (length marks) (length offers) (length before) ≡ false
-      → stepsAfter body types policy marks offers before ≡ before
-  unfolding stepsAfter
-  steps-stay e = rw e
+  pub stay : fitting types (length body) (length marks) (length offers) (length steps) (length uses) ≡ false → Chosen body types policy marks offers steps uses steps uses
+  stay e = record { stepsNow = rw e; usesNow = rw e }

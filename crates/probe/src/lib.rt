@@ -9,7 +9,7 @@ use round::rules::rule_table;
 use round::rules::rules_of;
 ghost use mathlib.Core.Path.{_≡_};
 ghost use Rattle.round.specs.Refusal.{verdict};
-ghost use Rattle.probe.specs.Probe.{verdictIn, fitting, stepsAfter};
+ghost use Rattle.probe.specs.Probe.{verdictIn, fitting, Chosen};
 
 // The number of the first of questions 1 to 13 that is answered no, and its byte; 0 and 0 where each is answered yes.
 #[no_mangle]
@@ -31,9 +31,9 @@ pub extern "C" fn tazbilk_verdict(file: &[u8], result: &mut [u64; 2])
     }
 }
 
-// Whether the lengths fit together: those of a body with so many types, of at most 512 places, and of the offers and steps.
-fn fits(types: usize, body: usize, places: usize, offers: usize, steps: usize) -> bool
-    ensures { λ r. ⌜ r ≡ fitting types body places offers steps ⌝ }
+// Whether the lengths fit together: those of a body with so many types, of at most 512 places, and of the offers, steps and notes of use.
+fn fits(types: usize, body: usize, places: usize, offers: usize, steps: usize, uses: usize) -> bool
+    ensures { λ r. ⌜ r ≡ fitting types body places offers steps uses ⌝ }
 {
     if 8 < types {
         return false;
@@ -47,10 +47,14 @@ fn fits(types: usize, body: usize, places: usize, offers: usize, steps: usize) -
     if offers != places {
         return false;
     }
-    steps == places
+    if steps != places {
+        return false;
+    }
+    uses == places
 }
 
-// The step of each place by an institute's choice, from the marks and the set of offers there; where the lengths do not fit together, nothing happens.
+// The step of each place by an institute's choice, and whether it is for use, from the marks and the set of offers there; where the lengths
+// do not fit together, nothing happens.
 #[no_mangle]
 pub extern "C" fn tazbilk_choose(
     body: &[u8],
@@ -59,13 +63,21 @@ pub extern "C" fn tazbilk_choose(
     marks: &[u8],
     offers: &[u8],
     steps: &mut [u8],
+    uses: &mut [u8],
 )
-    ensures { λ _. ⌜ now (steps .exit)
-        ≡ stepsAfter (now (body .entry)) types policy (now (marks .entry)) (now (offers .entry)) (now (steps .entry)) ⌝ }
+    ensures { λ _. ⌜ Chosen (now (body .entry)) types policy (now (marks .entry)) (now (offers .entry))
+        (now (steps .entry)) (now (uses .entry)) (now (steps .exit)) (now (uses .exit)) ⌝ }
 {
-    if fits(types, body.len(), marks.len(), offers.len(), steps.len()) {
+    if fits(
+        types,
+        body.len(),
+        marks.len(),
+        offers.len(),
+        steps.len(),
+        uses.len(),
+    ) {
         let mut rules = rule_table();
         let count = rules_of(body, types, policy, &mut rules);
-        choose(&rules, types, count, marks, offers, steps);
+        choose(&rules, types, count, marks, offers, steps, uses);
     }
 }

@@ -7,6 +7,8 @@ use mathlib.Core.List.{List, [], _∷_}
 use native.Mathlib.Omega.{arith}
 use lib.Dec.{eqb}
 use lib.ListN.{length, getD, replicate, length-replicate}
+use borrow.Author.Tests.{ne-eqb}
+use Rattle.round.specs.declared.entry.Category.the-variants.{Open}
 use Rattle.round.specs.declared.entry.Entry.{Entry}
 use Rattle.round.specs.Category.{codeOf, categoryOf}
 use Rattle.round.specs.Lists.{sum, sumOf}
@@ -15,7 +17,7 @@ use Rattle.round.specs.Questions.{reservedIn, entryCount, instituteIn, c
 use Rattle.round.specs.Refusal.{passes, verdict}
 use Rattle.round.specs.Round.{StepRule}
 use Rattle.round.specs.Reading.{stepIn, dereserved, stepsIn, entryIn, candidateIn, instituteFrom, roundOf}
-use Rattle.round.specs.Places.{candidateAt, instituteAt, entryAt, meritAt, noEntry, noCandidate, noInstitute, noStep}
+use Rattle.round.specs.Places.{candidateAt, instituteAt, entryAt, stepAt, meritAt, noEntry, noCandidate, noInstitute, noStep}
 use Rattle.round.specs.Read.{InRange}
 use Rattle.round.specs.Sound.{SoundCandidate, SoundInstitute, Sound}
 use Rattle.round.proofs.Words.{length-tabulate, tabulate-at, sum-tabulate}
@@ -30,6 +32,26 @@ code-category (suc (suc zero)) l = refl
 code-category (suc (suc (suc zero))) l = refl
 code-category (suc (suc (suc (suc zero)))) l = refl
 code-category (suc (suc (suc (suc (suc n))))) l = absurd (omega arith)
+
+-- a number that is no code has the open category, and so has what stands beyond the fifth step
+no-code : (code : ℕ) → 5 ≤ code → Open ≡ categoryOf code
+no-code code l = rw (ne-eqb code 1 (λ e. omega arith), ne-eqb code 2 (λ e. omega arith), ne-eqb code 3 (λ e. omega arith), ne-eqb code 4 (λ e. omega arith))
+
+beyond : (b : Bool) (types s : ℕ) → getD (cond b (dereserved types ∷ []) []) s noStep .category ≡ Open
+unfolding dereserved
+beyond true types zero = refl
+beyond true types (suc s) = refl
+beyond false types s = refl
+
+-- the steps have the categories of codes 0 to 4, and then the open one
+steps-category : (types policy : ℕ) (body : List ℕ) (s : ℕ) → getD (stepsIn types policy body) s noStep .category ≡ categoryOf s
+unfolding stepsIn stepIn
+steps-category types policy body zero = refl
+steps-category types policy body (suc zero) = refl
+steps-category types policy body (suc (suc zero)) = refl
+steps-category types policy body (suc (suc (suc zero))) = refl
+steps-category types policy body (suc (suc (suc (suc zero)))) = refl
+steps-category types policy body (suc (suc (suc (suc (suc s))))) = beyond (eqb policy 1) types s ∙ no-code (suc (suc (suc (suc (suc s))))) (omega arith)
 
 -- a candidate's body
 module _ (institutes types : ℕ) (body : List ℕ) (y : Answers.CandidateYes institutes types body) (short : length body ≤ 34) where
@@ -169,6 +191,10 @@ module _ (file : List ℕ) where
   unfolding roundOf
   institute-at j l =
       tabulate-at (headOf file .institutes) (λ j. instituteFrom (headOf file) (bodyOf file (instituteRecord (headOf file) j)) (bodyOf file (meritRecord (headOf file) j))) noInstitute j l
+
+  pub step-category : (j s : ℕ) → j < headOf file .institutes → stepAt (instituteAt (roundOf file) j) s .category ≡ categoryOf s
+  unfolding instituteFrom
+  step-category j s l = rw (institute-at j l) (steps-category (headOf file .types) (headOf file .policy) _ s)
 
   pub length-candidates : length (roundOf file .candidates) ≡ headOf file .candidates
   unfolding roundOf

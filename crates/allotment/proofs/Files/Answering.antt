@@ -1,4 +1,4 @@
--- The answer area after the seats and then the closing places are put in, where two arrays hold the list of the round.
+-- The answer area after the seats and then the closing places are put in, where arrays hold the list of the round and who is seated for use.
 use Prim.Native.Nat.{ℕ, _+_, _*_, _≤_}
 use mathlib.Core.Path.{_≡_, refl, sym, ap, _∙_}
 use mathlib.Core.List.{List, _++_}
@@ -12,11 +12,12 @@ use Rattle.round.specs.Records.{Head, headOf}
 use Rattle.round.specs.Reading.{roundOf}
 use Rattle.round.proofs.Words.{length-tabulate}
 use Rattle.round.proofs.Joined.{sets-append, sets-front}
-use Rattle.round.proofs.Sound.{length-candidates, length-institutes}
+use Rattle.round.proofs.Sound.{length-institutes}
 use Rattle.offers.specs.Process.{Seat, noSeat, candidateCount, instituteCount, seats}
 use Rattle.allotment.specs.Areas.{closingBytes, answerBytes, answerSize}
-use Rattle.offers.specs.Held.{HeldIn}
-use Rattle.allotment.specs.Writing.{seatHeld, seatsHeld, heldBytes, AnswerKnown, ClosingKnown}
+use Rattle.offers.specs.Held.{AtHand, HeldIn}
+use Rattle.offers.specs.Uses.{UsesNoted}
+use Rattle.allotment.specs.Writing.{seatHeld, seatsHeld, heldBytes, AnswerKnown}
 use Rattle.offers.proofs.Rounds.Bounds.{list-length}
 use Rattle.allotment.proofs.Files.Pieces.{length-pieces}
 use Rattle.allotment.proofs.Files.AreaSeats.{length-answer}
@@ -35,31 +36,35 @@ length-held : (holders steps : List ℕ) → length (heldBytes holders steps) �
 unfolding heldBytes
 length-held holders steps = length-pieces 2 (heldPieces holders steps) (λ i. refl) (length holders)
 
+-- the offers have ended, and each institute has chosen once more
+pub answer-known : {file : List ℕ} {h : CodeHead} {candidates merits holders steps uses : List ℕ} → AtHand file h candidates merits
+    → HeldIn (seats (roundOf file)) holders steps → UsesNoted (roundOf file) (h .institutes) holders uses → AnswerKnown file h merits holders steps uses
+answer-known {file} hand list noted = record {
+  head = hand .head;
+  closing = record {
+    accepted = hand .passing;
+    table = hand .merit-starts;
+    list = list;
+    noted = rw (ap (λ (h : Head). h .institutes) (hand .head)) at noted;
+  };
+}
+
 -- what the answer area is written from
-module _ {file : List ℕ} {h : CodeHead} {merits holders steps : List ℕ} (known : AnswerKnown file h merits holders steps) where
+module _ {file : List ℕ} {h : CodeHead} {merits holders steps uses : List ℕ} (known : AnswerKnown file h merits holders steps uses) where
   abbrev r : Round
   r = roundOf file
 
   many : length holders ≡ candidateCount r
-  many = known .list .holders-many ∙ list-length r
+  many = known .closing .list .holders-many ∙ list-length r
 
   pub as-many : length steps ≡ length holders
-  as-many = known .list .steps-many ∙ sym (known .list .holders-many)
+  as-many = known .closing .list .steps-many ∙ sym (known .closing .list .holders-many)
 
   pub institutes-known : h .institutes ≡ headOf file .institutes
   institutes-known = ap (λ (h : Head). h .institutes) (known .head)
 
   institutes-many : h .institutes ≡ instituteCount r
   institutes-many = institutes-known ∙ sym (length-institutes file)
-
-  -- the closing places can be found
-  pub closing-known : ClosingKnown file merits holders steps
-  closing-known = record {
-    accepted = known .accepted;
-    table = known .table;
-    holders-many = many ∙ length-candidates file;
-    steps-many = as-many ∙ many ∙ length-candidates file;
-  }
 
   -- there is room for the seats, and behind them for the closing places
   pub seats-room : {size : ℕ} → answerSize r ≤ size → 2 * length holders ≤ size
@@ -69,13 +74,13 @@ module _ {file : List ℕ} {h : CodeHead} {merits holders steps : List ℕ} (kno
   closings-room e l = omega (arith, many, institutes-many)
 
   -- both parts together
-  parts : heldBytes holders steps ++ joined (tabulate (h .institutes) (closingBytes r (seatsHeld holders steps))) ≡ answerBytes r
+  parts : heldBytes holders steps ++ joined (tabulate (h .institutes) (closingBytes r)) ≡ answerBytes r
   unfolding heldBytes answerBytes
-  parts = rw (held-one (seats r) holders steps (known .list), many, institutes-many)
+  parts = rw (held-one (seats r) holders steps (known .closing .list), many, institutes-many)
 
   pub answer-put : (area : List ℕ) {mid now : List ℕ} → answerSize r ≤ length area
       → mid ≡ sets area 0 (heldBytes holders steps)
-      → now ≡ sets mid (2 * length holders) (joined (tabulate (h .institutes) (closingBytes r (seatsHeld holders steps))))
+      → now ≡ sets mid (2 * length holders) (joined (tabulate (h .institutes) (closingBytes r)))
       → now ≡ answerBytes r ++ drop (answerSize r) area
   answer-put area {mid} {now} room first second =
       let at : 0 + length (heldBytes holders steps) ≡ 2 * length holders = omega (arith, length-held holders steps) in

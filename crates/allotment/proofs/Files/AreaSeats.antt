@@ -11,8 +11,8 @@ use Rattle.round.specs.Lists.{tabulate, joined}
 use Rattle.round.specs.Round.{Round}
 use Rattle.round.specs.Records.{word}
 use Rattle.round.proofs.Words.{length-tabulate, tabulate-at}
-use Rattle.offers.specs.Process.{Seat, noSeat, candidateCount, instituteCount, seats}
-use Rattle.allotment.specs.Areas.{wordBytes, seatBytes, closingPlace, closingBytes, answerBytes, answerSize, seatIn, seatsIn}
+use Rattle.offers.specs.Process.{noSeat, candidateCount, instituteCount, seats}
+use Rattle.allotment.specs.Areas.{wordBytes, seatBytes, closingPlaces, closingBytes, answerBytes, answerSize, seatIn, seatsIn}
 use Rattle.offers.proofs.Rounds.Bounds.{list-length}
 use Rattle.allotment.proofs.Files.Pieces.{length-pieces, getD-pieces}
 
@@ -21,7 +21,7 @@ module _ (r : Round) where
   seatPart = joined (tabulate (candidateCount r) (λ i. seatBytes (getD (seats r) i noSeat)))
 
   closingPart : List ℕ
-  closingPart = joined (tabulate (instituteCount r) (closingBytes r (seats r)))
+  closingPart = joined (tabulate (instituteCount r) (closingBytes r))
 
   answer-parts : answerBytes r ≡ seatPart ++ closingPart
   unfolding answerBytes seatPart closingPart
@@ -31,13 +31,13 @@ module _ (r : Round) where
   unfolding seatPart
   length-seatPart = length-pieces 2 (λ i. seatBytes (getD (seats r) i noSeat)) (λ i. refl) (candidateCount r)
 
-  pub length-closing : (list : List Seat) (j : ℕ) → length (closingBytes r list j) ≡ 12
+  pub length-closing : (j : ℕ) → length (closingBytes r j) ≡ 12
   unfolding closingBytes
-  length-closing list j = length-pieces 2 (λ k. wordBytes (closingPlace r list j (suc k))) (λ k. refl) 6
+  length-closing j = length-pieces 2 (λ k. wordBytes (getD (closingPlaces r j) k 0)) (λ k. refl) 6
 
   length-closingPart : length closingPart ≡ 12 * instituteCount r
   unfolding closingPart
-  length-closingPart = length-pieces 12 (closingBytes r (seats r)) (length-closing (seats r)) (instituteCount r)
+  length-closingPart = length-pieces 12 (closingBytes r) length-closing (instituteCount r)
 
   pub length-answer : length (answerBytes r) ≡ answerSize r
   length-answer = rw answer-parts (omega (arith, length-append seatPart closingPart, length-seatPart, length-closingPart))
@@ -78,23 +78,23 @@ module _ (r : Round) where
 
   -- byte b of the closing place of step k, from 0, at institute j
   closing-byte : (j k b : ℕ) → j < instituteCount r → k < 6 → b < 2
-      → getD (answerBytes r) (2 * candidateCount r + 12 * j + 2 * k + b) 0 ≡ getD (wordBytes (closingPlace r (seats r) j (suc k))) b 0
+      → getD (answerBytes r) (2 * candidateCount r + 12 * j + 2 * k + b) 0 ≡ getD (wordBytes (getD (closingPlaces r j) k 0)) b 0
   unfolding closingPart closingBytes
   closing-byte j k b l m o =
       let at : 2 * candidateCount r + 12 * j + 2 * k + b ≡ length seatPart + (12 * j + (2 * k + b)) = omega (arith, length-seatPart) in
       rw (answer-parts, at)
       (getD-append-add seatPart closingPart (12 * j + (2 * k + b)) 0
-      ∙ (getD-pieces 12 (closingBytes r (seats r)) (length-closing (seats r)) (instituteCount r) j (2 * k + b) l (omega arith)
-      ∙ getD-pieces 2 (λ k. wordBytes (closingPlace r (seats r) j (suc k))) (λ k. refl) 6 k b m o))
+      ∙ (getD-pieces 12 (closingBytes r) length-closing (instituteCount r) j (2 * k + b) l (omega arith)
+      ∙ getD-pieces 2 (λ k. wordBytes (getD (closingPlaces r j) k 0)) (λ k. refl) 6 k b m o))
 
   -- the closing place that stands in an area that starts with the answer bytes
-  pub closing-stands : (rest : List ℕ) (j k : ℕ) → j < instituteCount r → k < 6 → closingPlace r (seats r) j (suc k) < 65536
-      → word (answerBytes r ++ rest) (2 * candidateCount r + 12 * j + 2 * k) ≡ closingPlace r (seats r) j (suc k)
+  pub closing-stands : (rest : List ℕ) (j k : ℕ) → j < instituteCount r → k < 6 → getD (closingPlaces r j) k 0 < 65536
+      → word (answerBytes r ++ rest) (2 * candidateCount r + 12 * j + 2 * k) ≡ getD (closingPlaces r j) k 0
   closing-stands rest j k l m few =
       let at : ℕ = 2 * candidateCount r + 12 * j + 2 * k in
       let inside : at + 1 < length (answerBytes r) = omega (arith, length-answer) in
-      let first : getD (answerBytes r ++ rest) at 0 ≡ closingPlace r (seats r) j (suc k) % 256 =
+      let first : getD (answerBytes r ++ rest) at 0 ≡ getD (closingPlaces r j) k 0 % 256 =
       List·getD-append (answerBytes r) rest 0 at (omega arith) ∙ (rw add-zero at (closing-byte j k 0 l m (omega arith))) in
-      let second : getD (answerBytes r ++ rest) (suc at) 0 ≡ closingPlace r (seats r) j (suc k) / 256 % 256 =
+      let second : getD (answerBytes r ++ rest) (suc at) 0 ≡ getD (closingPlaces r j) k 0 / 256 % 256 =
       List·getD-append (answerBytes r) rest 0 (suc at) (omega arith) ∙ (rw add-one at (closing-byte j k 1 l m (omega arith))) in
       omega arith

@@ -1,93 +1,210 @@
--- A closing place as it is found by going down the merit list: the largest so far of the places that are seated at the step.
+-- The closing places as they are found by going down the merit list: of each step the last place so far that it seated by merit.
 use Prim.Native.Nat.{ℕ, suc, _+_, _-_, _<_, _≤_, max}
 use mathlib.Core.Path.{_≡_, refl, sym, ap, _∙_}
-use mathlib.Core.Bool.{Bool, true, false, cond}
+use mathlib.Core.Bool.{Bool, true, false, cond, not, _&&_, and-true, and-false}
 use mathlib.Core.List.{List}
 use native.Mathlib.Omega.{arith}
 use native.Mathlib.Numerals.{add-one}
-use lib.ListN.{length, getD}
+use lib.Dec.{eqb}
+use lib.ListN.{length, getD, set, replicate, length-set}
+use lib.Seq.{getD-set-same, getD-set-other, ext-getD}
 use mir.Syntax.{w64}
 use mir.Val.{Fits}
+use borrow.Author.Tests.{eq-eqb, ne-eqb}
 use Rattle.round.specs.Lists.{greatest}
 use Rattle.round.specs.Records.{headOf}
 use Rattle.round.specs.Reading.{roundOf}
 use Rattle.round.specs.Round.{Institute, Round}
 use Rattle.round.specs.Places.{instituteAt, meritAt}
-use Rattle.round.specs.Sound.{SoundInstitute}
+use Rattle.round.specs.Access.{MeritKnown}
+use Rattle.round.specs.Sound.{Sound, SoundInstitute}
 use Rattle.round.proofs.Sound.{sound, length-candidates, length-institutes}
-use Rattle.round.proofs.Words.{tabulate-at, cond-yes, cond-no}
-use Rattle.choice.proofs.Counting.{greatest-below}
-use Rattle.offers.specs.Offers.{candidateOn}
-use Rattle.offers.specs.Process.{Seat, noSeat}
-use Rattle.allotment.specs.Areas.{seatIs, closingPlace}
-use Rattle.allotment.specs.Writing.{seatHeld, seatsHeld, seatedPlace, ClosingKnown}
-use Rattle.offers.proofs.Rounds.Bounds.{merit-short}
-
--- the closing place by the first p places
-unfoldable pub closingTo : Round → List Seat → ℕ → ℕ → ℕ → ℕ
-closingTo r list j k p = greatest p (seatedPlace r list j k)
-
-module _ (r : Round) (list : List Seat) (j k : ℕ) where
-  pub closing-start : 0 ≡ closingTo r list j k 0
-  unfolding closingTo greatest
-  closing-start = refl
-
-  -- one place more
-  pub closing-more : (p : ℕ) {last place next : ℕ} → last ≡ closingTo r list j k p → place ≡ seatedPlace r list j k p → next ≡ max last place
-      → next ≡ closingTo r list j k (p + 1)
-  unfolding closingTo greatest
-  closing-more p e f g = rw add-one (omega arith)
-
-  pub closing-done : {count p last : ℕ} → count ≡ length (instituteAt r j .merit) → p ≤ count → count ≤ p → last ≡ closingTo r list j k p
-      → last ≡ closingPlace r list j k
-  unfolding closingTo closingPlace seatedPlace
-  closing-done {count} {p} e l m f =
-      let q : p ≡ length (instituteAt r j .merit) = omega arith in
-      f ∙ ap (λ (n : ℕ). greatest n (seatedPlace r list j k)) q
-
--- a closing place is no larger than the merit list is long
-pub closing-few : (r : Round) (list : List Seat) (j k : ℕ) → closingPlace r list j k ≤ length (instituteAt r j .merit)
-unfolding closingPlace
-closing-few r list j k = greatest-below (length (instituteAt r j .merit)) _ (length (instituteAt r j .merit)) (λ p l. place-few (seatIs _ (suc j) k) p l)
-  where
-    place-few : (b : Bool) (p : ℕ) → p < length (instituteAt r j .merit) → cond b (suc p) 0 ≤ length (instituteAt r j .merit)
-    place-few true p l = l
-    place-few false p l = omega arith
+use Rattle.round.proofs.Words.{length-tabulate, tabulate-at}
+use Rattle.choice.specs.Account.{StepAccount, tookByMerit, accountOf, closingPlace, usedIn}
+use Rattle.choice.proofs.Counting.{test, sameOr}
+use Rattle.choice.proofs.Tabulate.{getD-zeros}
+use Rattle.choice.proofs.Accounts.{merit-long, meritPlace, largest-few, closing-largest}
+use Rattle.offers.specs.Offers.{candidateOn, marksOn, atPlaces, placeOn, accountOn, usedFor}
+use Rattle.offers.specs.Process.{Seat, noSeat, candidateCount, instituteCount, madeTo, tried, seats, accountAtEnd}
+use Rattle.offers.specs.Stable.{stepOf}
+use Rattle.offers.proofs.Rounds.Places.{candidate-below, place-of}
+use Rattle.offers.proofs.Rounds.Bounds.{merit-short, list-length}
+use Rattle.offers.proofs.Rounds.Agreed.{merit-marks, step-number}
+use Rattle.offers.proofs.Rounds.Process.{tried-running}
+use Rattle.offers.proofs.Rounds.Given.{step-given}
+use Rattle.offers.proofs.Rounds.AccountRound.{merit-seated}
+use Rattle.allotment.specs.Areas.{closingPlaces}
+use Rattle.allotment.specs.Writing.{seatHeld, seatsHeld, meritStep, withPlace, ClosingKnown}
 
 -- the seat that two arrays hold for a candidate stands in the list that they hold
 pub held-at : (holders steps : List ℕ) (i : ℕ) → i < length holders → getD (seatsHeld holders steps) i noSeat ≡ seatHeld holders steps i
 unfolding seatsHeld
 held-at holders steps i l = tabulate-at (length holders) (seatHeld holders steps) noSeat i l
 
--- what stands on the merit list of an institute of an accepted file: a number, and whether its candidate is seated at step k
-module _ {file merits holders steps : List ℕ} {j : ℕ} (known : ClosingKnown file merits holders steps) (below : j < headOf file .institutes) where
+-- what step k + 1 of institute j did in the end
+abbrev stepAtEnd : Round → ℕ → ℕ → StepAccount
+stepAtEnd r j k = accountOf (accountAtEnd r j) (suc k)
+
+-- its closing place is the largest over the whole merit list
+module _ (r : Round) (j k : ℕ) where
+  closing-all : closingPlace (stepAtEnd r j k) ≡ greatest (length (instituteAt r j .merit)) (meritPlace (stepAtEnd r j k))
+  unfolding accountAtEnd accountOn
+  closing-all =
+      closing-largest (stepAtEnd r j k) (length (instituteAt r j .merit))
+      (omega (arith, merit-marks r j, merit-long (marksOn r j) (atPlaces r j (madeTo r (tried r) j)) (instituteAt r j .steps) k))
+
+  closing-at : k < 6 → getD (closingPlaces r j) k 0 ≡ greatest (length (instituteAt r j .merit)) (meritPlace (stepAtEnd r j k))
+  unfolding closingPlaces
+  closing-at l = tabulate-at 6 (λ k. closingPlace (stepAtEnd r j k)) 0 k l ∙ closing-all
+
+  -- a closing place is no larger than the merit list is long
+  pub closing-few : k < 6 → getD (closingPlaces r j) k 0 ≤ length (instituteAt r j .merit)
+  closing-few l = omega (arith, closing-at l, largest-few (stepAtEnd r j k) (length (instituteAt r j .merit)))
+
+-- of each step the largest of the first p places that it seated by merit
+pub record ClosedTo (r : Round) (j p : ℕ) (places : List ℕ) : Type 0 where
+  pub six : length places ≡ 6
+  pub at : (k : ℕ) → k < 6 → getD places k 0 ≡ greatest p (meritPlace (stepAtEnd r j k))
+
+module _ (r : Round) (j : ℕ) where
+  pub none-closed : (places : List ℕ) → places ≡ replicate 6 0 → ClosedTo r j 0 places
+  unfolding greatest
+  none-closed places e = rw e record { six = refl; at = λ k l. getD-zeros 6 k }
+
+  pub all-closed : {count p : ℕ} {places : List ℕ} → count ≡ length (instituteAt r j .merit) → p ≤ count → count ≤ p → ClosedTo r j p places
+      → places ≡ closingPlaces r j
+  unfolding closingPlaces
+  all-closed {count} {p} {places} e l m c =
+      let all : p ≡ length (instituteAt r j .merit) = omega arith in
+      ext-getD 0 places (closingPlaces r j) (c .six ∙ sym (length-tabulate 0 6 (λ k. closingPlace (stepAtEnd r j k))))
+      (λ k b.
+      let inside : k < 6 = omega (arith, c .six) in
+      c .at k inside ∙ rw all (sym (closing-at r j k inside)))
+
+  -- one place more, whose candidate the step with a number seated by merit, or none did
+  one-closed : {p step : ℕ} {places : List ℕ} → step ≤ 6 → ((k : ℕ) → tookByMerit (stepAtEnd r j k) p ≡ eqb step (suc k)) → ClosedTo r j p places
+      → ClosedTo r j (p + 1) (withPlace step (p + 1) places)
+  unfolding greatest
+  one-closed {p} {step} {places} few took c = rw add-one (sameOr step 0 none some)
+    where
+      none : step ≡ 0 → ClosedTo r j (suc p) (withPlace step (suc p) places)
+      none z = rw z record {
+        six = c .six;
+        at = λ k l.
+            let out : tookByMerit (stepAtEnd r j k) p ≡ false = took k ∙ ne-eqb step (suc k) (λ s. omega arith) in
+            c .at k l ∙ rw out (omega arith);
+      }
+
+      some : (step ≡ 0 → ⊥) → ClosedTo r j (suc p) (withPlace step (suc p) places)
+      some d = rw (ne-eqb step 0 d) record {
+        six = length-set places (step - 1) (suc p) ∙ c .six;
+        at = λ k l.
+            sameOr step (suc k)
+            (λ s.
+            let at : step - 1 ≡ k = omega arith in
+            rw (at, getD-set-same places k (suc p) 0 (omega (arith, c .six)), took k ∙ eq-eqb step (suc k) s)
+            (omega (arith, largest-few (stepAtEnd r j k) p)))
+            (λ n.
+            rw (getD-set-other places (step - 1) k (suc p) 0 (λ s. n (omega arith)), took k ∙ ne-eqb step (suc k) n)
+            (c .at k l ∙ omega arith));
+      }
+
+-- a step with a number that is not 0, where it is not for use
+by-use : (used : Bool) (step number : ℕ) → (number ≡ 0 → ⊥) → (eqb step number && not used) ≡ eqb (cond (eqb (cond used 1 0) 0) step 0) number
+by-use true step number d = and-false (eqb step number) ∙ sym (ne-eqb 0 number (λ z. d (sym z)))
+by-use false step number d = and-true (eqb step number)
+
+part-of : (a b : Bool) (x : ℕ) → cond a (cond b x 0) 0 ≤ cond a x 0
+part-of true true x = omega arith
+part-of true false x = omega arith
+part-of false b x = omega arith
+
+-- what stands on the merit list of an institute of an accepted file: a number, and the step that seated its candidate by merit
+module _ {file merits holders steps uses : List ℕ} {j : ℕ} (known : ClosingKnown file merits holders steps uses) (below : j < headOf file .institutes) where
+  abbrev r : Round
+  r = roundOf file
+
   abbrev own : Institute
   own = instituteAt (roundOf file) j
 
+  inside : j < instituteCount r
+  inside = omega (arith, length-institutes file)
+
+  lawful : Sound (headOf file .types) r
+  lawful = sound file (known .accepted)
+
   listing : SoundInstitute (length (roundOf file .candidates)) (headOf file .types) own
-  listing = sound file (known .accepted) .institute j (omega (arith, length-institutes file))
+  listing = lawful .institute j inside
 
-  pub place-fits : {p : ℕ} → p < length (own .merit) → Fits w64 (p + 1)
-  place-fits inside = omega (arith, merit-short (roundOf file) j listing, sound file (known .accepted) .candidates-most)
+  pub merit-known : MeritKnown file merits j
+  merit-known = record { accepted = known .accepted; table = known .table; below = below }
 
-  module _ {p number : ℕ} (inside : p < length (own .merit)) (read : number ≡ meritAt own p) where
+  module _ {count p : ℕ} (counted : count ≡ length (own .merit)) (less : p < count) where
+    pub on-list : p < length (own .merit)
+    on-list = omega arith
+
+    pub place-fits : Fits w64 (p + 1)
+    place-fits = omega (arith, merit-short (roundOf file) j listing, lawful .candidates-most)
+
+  module _ {count p number : ℕ} (counted : count ≡ length (own .merit)) (less : p < count) (read : number ≡ meritAt own p) where
+    on : p < length (own .merit)
+    on = omega arith
+
     pub merit-least : 1 ≤ number
-    merit-least = omega (arith, listing .merit-from p inside)
+    merit-least = omega (arith, listing .merit-from p on)
+
+    there : number - 1 < candidateCount r
+    there = omega (arith, merit-least, listing .merit-to p on)
 
     pub holder-there : number - 1 < length holders
-    holder-there = omega (arith, merit-least, listing .merit-to p inside, length-candidates file, known .holders-many)
+    holder-there = omega (arith, there, known .list .holders-many, list-length r)
 
     pub step-there : number - 1 < length steps
-    step-there = omega (arith, holder-there, known .holders-many, known .steps-many)
+    step-there = omega (arith, there, known .list .steps-many, list-length r)
 
-    module _ (k : ℕ) {b : Bool} (told : b ≡ seatIs (seatHeld holders steps (number - 1)) (j + 1) k) where
-      seat-there : seatIs (getD (seatsHeld holders steps) (candidateOn (roundOf file) j p) noSeat) (suc j) k ≡ b
-      seat-there = rw (← read, held-at holders steps (number - 1) holder-there, ← add-one j) (sym told)
+    pub use-there : number - 1 < length uses
+    use-there = omega (arith, there, known .noted .many)
 
-      pub place-seated : b ≡ true → p + 1 ≡ seatedPlace (roundOf file) (seatsHeld holders steps) j k p
-      unfolding seatedPlace
-      place-seated t = cond-yes (suc p) 0 (seat-there ∙ t) (add-one p)
+    place-there : placeOn r j (number - 1) ≡ p
+    place-there = ap (λ n. placeOn r j (n - 1)) read ∙ place-of r j listing p on
 
-      pub place-empty : b ≡ false → 0 ≡ seatedPlace (roundOf file) (seatsHeld holders steps) j k p
-      unfolding seatedPlace
-      place-empty t = cond-no (suc p) 0 (seat-there ∙ t) refl
+    -- the seat there, by the arrays
+    seated-there : stepOf r (seats r) j (number - 1) ≡ cond (eqb (getD holders (number - 1) 0) (suc j)) (getD steps (number - 1) 0) 0
+    unfolding stepOf
+    seated-there = rw (known .list .seat (number - 1) (omega (arith, there, list-length r)))
+
+    -- whom the step seated by merit
+    took-there : (k : ℕ) → tookByMerit (stepAtEnd r j k) p ≡ eqb (meritStep holders steps uses (suc j) (number - 1)) (suc k)
+    unfolding usedFor accountAtEnd
+    took-there k =
+        let c = number - 1 in
+        ap (λ q. tookByMerit (stepAtEnd r j k) q) (sym place-there)
+        ∙ merit-seated lawful j inside c k there (omega (arith, place-there))
+        ∙ rw seated-there
+        (sameOr (getD holders c 0) (suc j)
+        (λ e. rw (e, eq-eqb (suc j) (suc j) refl, known .noted .noted c j there below e) (by-use (usedIn (accountAtEnd r j) (placeOn r j c)) (getD steps c 0) (suc k) (λ z. omega arith)))
+        (λ d. rw (ne-eqb (getD holders c 0) (suc j) d, ne-eqb 0 (suc k) (λ z. omega arith))))
+
+    few-there : meritStep holders steps uses (suc j) (number - 1) ≤ 6
+    unfolding seats
+    few-there =
+        let c = number - 1 in
+        omega (
+          arith,
+          part-of (eqb (getD holders c 0) (suc j)) (eqb (getD uses c 0) 0) (getD steps c 0),
+          seated-there,
+          step-given lawful (tried-running lawful) c j there inside,
+          step-number r j (madeTo r (tried r) j) c,
+          listing .steps-most,
+        )
+
+    module _ {step : ℕ} (told : step ≡ meritStep holders steps uses (j + 1) (number - 1)) where
+      told-there : step ≡ meritStep holders steps uses (suc j) (number - 1)
+      told-there = told ∙ rw add-one
+
+      pub step-few : {places : List ℕ} → ClosedTo (roundOf file) j p places → step ≤ length places
+      step-few c = omega (arith, told-there, few-there, c .six)
+
+      -- the place is kept
+      pub place-closed : {places places' : List ℕ} → ClosedTo (roundOf file) j p places → places' ≡ withPlace step (p + 1) places → ClosedTo (roundOf file) j (p + 1) places'
+      place-closed c e = rw (e, told-there) (one-closed r j few-there took-there c)

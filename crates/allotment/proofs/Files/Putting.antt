@@ -1,5 +1,5 @@
 -- Pieces put into an area one after the other: all of them together are put in as one.
-use Prim.Native.Nat.{ℕ, suc, _+_, _*_, _<_, _≤_}
+use Prim.Native.Nat.{ℕ, _+_, _*_, _<_, _≤_}
 use mathlib.Core.Path.{_≡_, refl, sym, ap, _∙_}
 use mathlib.Core.List.{List}
 use native.Mathlib.Nat.{zero-add}
@@ -10,8 +10,8 @@ use Rattle.round.specs.Lists.{tabulate, joined}
 use Rattle.round.specs.Round.{Round}
 use Rattle.round.proofs.Words.{reached}
 use Rattle.round.proofs.Joined.{sets-append, joined-more}
-use Rattle.offers.specs.Process.{Seat, noSeat}
-use Rattle.allotment.specs.Areas.{seatBytes, wordBytes, closingPlace, closingBytes}
+use Rattle.offers.specs.Process.{noSeat}
+use Rattle.allotment.specs.Areas.{seatBytes, wordBytes, closingPlaces, closingBytes}
 use Rattle.allotment.specs.Writing.{seatHeld, seatsHeld, heldBytes}
 use Rattle.allotment.proofs.Files.Pieces.{length-pieces}
 use Rattle.allotment.proofs.Files.AreaSeats.{length-closing}
@@ -45,31 +45,29 @@ unfolding heldBytes
 seats-put holders steps area l m e = reached (λ n. sets area 0 (joined (tabulate n (heldPieces holders steps)))) l m (sym e)
 
 -- the bytes of an institute's closing places, step by step
-abbrev pub closingPieces : Round → List Seat → ℕ → ℕ → List ℕ
-closingPieces r list j k = wordBytes (closingPlace r list j (suc k))
+abbrev pub closingPieces : Round → ℕ → ℕ → List ℕ
+closingPieces r j k = wordBytes (getD (closingPlaces r j) k 0)
 
 -- one closing place more
-pub closing-put : (r : Round) (list : List Seat) (j : ℕ) (area : List ℕ) (at k : ℕ) {before now : List ℕ} {place : ℕ}
-    → before ≡ sets area at (joined (tabulate k (closingPieces r list j))) → place ≡ closingPlace r list j (k + 1)
-    → now ≡ sets before (at + 2 * k) (wordBytes place) → now ≡ sets area at (joined (tabulate (k + 1) (closingPieces r list j)))
-closing-put r list j area at k {before} {now} {place} e f g =
-    let place-now : place ≡ closingPlace r list j (suc k) = f ∙ ap (λ (n : ℕ). closingPlace r list j n) (add-one k) in
-    g ∙ (ap (λ (x : ℕ). sets before (at + 2 * k) (wordBytes x)) place-now
-    ∙ pieces-more 2 (closingPieces r list j) (λ k. refl) area at k e)
+pub closing-put : (r : Round) (j : ℕ) (area : List ℕ) (at k : ℕ) {before now places : List ℕ}
+    → before ≡ sets area at (joined (tabulate k (closingPieces r j))) → places ≡ closingPlaces r j
+    → now ≡ sets before (at + 2 * k) (wordBytes (getD places k 0)) → now ≡ sets area at (joined (tabulate (k + 1) (closingPieces r j)))
+closing-put r j area at k {before} {now} {places} e f g =
+    g ∙ (ap (λ (l : List ℕ). sets before (at + 2 * k) (wordBytes (getD l k 0))) f ∙ pieces-more 2 (closingPieces r j) (λ k. refl) area at k e)
 
 -- all six
-pub closings-put : (r : Round) (list : List Seat) (j : ℕ) (area : List ℕ) (at : ℕ) {k : ℕ} {now : List ℕ} → k ≤ 6 → 6 ≤ k
-    → now ≡ sets area at (joined (tabulate k (closingPieces r list j))) → now ≡ sets area at (closingBytes r list j)
+pub closings-put : (r : Round) (j : ℕ) (area : List ℕ) (at : ℕ) {k : ℕ} {now : List ℕ} → k ≤ 6 → 6 ≤ k
+    → now ≡ sets area at (joined (tabulate k (closingPieces r j))) → now ≡ sets area at (closingBytes r j)
 unfolding closingBytes
-closings-put r list j area at l m e = reached (λ n. sets area at (joined (tabulate n (closingPieces r list j)))) l m (sym e)
+closings-put r j area at l m e = reached (λ n. sets area at (joined (tabulate n (closingPieces r j)))) l m (sym e)
 
 -- one institute more
-pub institute-put : (r : Round) (list : List Seat) (area : List ℕ) (at j : ℕ) {before now : List ℕ}
-    → before ≡ sets area at (joined (tabulate j (closingBytes r list))) → now ≡ sets before (at + 12 * j) (closingBytes r list j)
-    → now ≡ sets area at (joined (tabulate (j + 1) (closingBytes r list)))
-institute-put r list area at j e f = f ∙ pieces-more 12 (closingBytes r list) (length-closing r list) area at j e
+pub institute-put : (r : Round) (area : List ℕ) (at j : ℕ) {before now : List ℕ}
+    → before ≡ sets area at (joined (tabulate j (closingBytes r))) → now ≡ sets before (at + 12 * j) (closingBytes r j)
+    → now ≡ sets area at (joined (tabulate (j + 1) (closingBytes r)))
+institute-put r area at j e f = f ∙ pieces-more 12 (closingBytes r) (length-closing r) area at j e
 
 -- all of them
-pub institutes-put : (r : Round) (list : List Seat) (area : List ℕ) (at : ℕ) {j institutes : ℕ} {now : List ℕ} → j ≤ institutes → institutes ≤ j
-    → now ≡ sets area at (joined (tabulate j (closingBytes r list))) → now ≡ sets area at (joined (tabulate institutes (closingBytes r list)))
-institutes-put r list area at l m e = reached (λ n. sets area at (joined (tabulate n (closingBytes r list)))) l m (sym e)
+pub institutes-put : (r : Round) (area : List ℕ) (at : ℕ) {j institutes : ℕ} {now : List ℕ} → j ≤ institutes → institutes ≤ j
+    → now ≡ sets area at (joined (tabulate j (closingBytes r))) → now ≡ sets area at (joined (tabulate institutes (closingBytes r)))
+institutes-put r area at l m e = reached (λ n. sets area at (joined (tabulate n (closingBytes r)))) l m (sym e)

@@ -7,13 +7,16 @@ use Rattle.choice.proofs.choose.Statement.{statement}
 use Rattle.choice.proofs.choose.Tie as tie
 
 abbrev Inv-loop : tie.InvT-loop
-Inv-loop rules types count marks offers steps₀ handed₀ k₀ steps handed k = (k ≤ count) × Stepping marks offers rules types count k steps handed
+Inv-loop rules types count marks offers steps₀ uses₀ handed₀ k₀ steps uses handed k = (k ≤ count) × Stepping marks offers rules types count k steps uses handed
 
 abbrev μ-loop : tie.MeasureT-loop
-μ-loop rules types count marks offers steps₀ handed₀ k₀ steps handed k = count - k
+μ-loop rules types count marks offers steps₀ uses₀ handed₀ k₀ steps uses handed k = count - k
 
 clear-requires : tie.Need-clear-requires Inv-loop μ-loop
 clear-requires c κs = search needs
+
+clear-requires-2 : tie.Need-clear-requires-2 Inv-loop μ-loop
+clear-requires-2 c κs = search needs
 
 none-handed-requires : tie.Need-none-handed-requires Inv-loop μ-loop
 none-handed-requires c κs = search needs
@@ -39,8 +42,11 @@ loop-again c = (omega arith, search go-on)
 same-length : tie.Need-same-length Inv-loop μ-loop
 same-length c = cc
 
+same-length-2 : tie.Need-same-length-2 Inv-loop μ-loop
+same-length-2 c = cc
+
 returns : tie.Need-returns Inv-loop μ-loop
-returns c = search arrive
+returns c = arrive (omega arith) (c .before .loop .inv .1)
 
 pub choose-spec : {M : Type 1} → statement M
 choose-spec =
@@ -49,6 +55,7 @@ choose-spec =
     Inv-loop
     μ-loop
     clear-requires
+    clear-requires-2
     none-handed-requires
     loop-holds
     slice-aggregate-next-step
@@ -57,4 +64,5 @@ choose-spec =
     loop-less
     loop-again
     same-length
+    same-length-2
     returns)

@@ -96,12 +96,15 @@ same-length c = search needs
 same-length-2 : tie.Need-same-length-2
 same-length-2 c = search needs
 
+same-length-3 : tie.Need-same-length-3
+same-length-3 c = search needs
+
 returns : tie.Need-returns
 returns c =
     let start : tie.Start = search needs in
     let stepped : tie.After-step = search needs in
     let a = start .args in
-    step-advances (start .pre .0) (start .pre .1 .0) (a .marks .now) (a .offers .now) (a .steps .now) (stepped .step .ensures)
+    step-advances (start .pre .0) (start .pre .1 .0) (a .marks .now) (a .offers .now) (a .steps .now) (a .uses .now) (stepped .step .ensures)
 
 pub next-step-spec : {M : Type 1} → statement M
 next-step-spec =
@@ -136,4 +139,5 @@ next-step-spec =
     slice-write-handed
     same-length
     same-length-2
+    same-length-3
     returns)

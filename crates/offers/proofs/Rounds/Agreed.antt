@@ -1,5 +1,5 @@
 -- Where an institute's completion takes at most one offer of each candidate, the institute takes the same offers, and from any offers between
--- those taken and those made it gives the same steps.
+-- those taken and those made it gives the same steps and the same account.
 use mathlib.Core.Path.{_≡_, refl, sym, _∙_, ap}
 use mathlib.Core.Bool.{Bool, true, false, not, _&&_}
 use mathlib.Core.Logic.{_≢_}
@@ -17,13 +17,14 @@ use Rattle.round.specs.Places.{instituteAt, noStep}
 use Rattle.round.specs.Sound.{SoundInstitute}
 use Rattle.round.proofs.Words.{and-fst, and-snd}
 use Rattle.choice.proofs.Taking.{takingForUse}
-use Rattle.choice.proofs.Offers.{Alone, same-self, same-category}
+use Rattle.choice.proofs.Filling.{TakesForUse}
+use Rattle.choice.proofs.Offers.{WithinBelow, Alone, same-self, same-category}
 use Rattle.choice.proofs.Chosen.{takenUnder, choose-length, choose-number}
-use Rattle.choice.proofs.Agreement.{agreement, same-steps}
+use Rattle.choice.proofs.Agreement.{agreement, same-steps, same-account}
 use Rattle.offers.specs.Rows.{sameCategory, categoryAt}
-use Rattle.offers.specs.Offers.{OfferSet, candidateOn, placeOn, stepsOn, stepFor, takenFrom}
+use Rattle.offers.specs.Offers.{OfferSet, candidateOn, marksOn, atPlaces, placeOn, stepsOn, accountOn, stepFor, takenFrom}
 use Rattle.offers.proofs.Rounds.Places.{meritLength, candidate-below}
-use Rattle.offers.proofs.Rounds.Completed.{marksOn, atPlaces, completedAt, completed, completed-on, completed-off, completed-here, lawful}
+use Rattle.offers.proofs.Rounds.Completed.{completedAt, completed, completed-on, completed-off, completed-here, lawful}
 
 eqb-sym : (a b : ℕ) → eqb a b ≡ eqb b a
 eqb-sym a b = go (eqb b a) refl
@@ -50,7 +51,7 @@ module _ (r : Round) (j : ℕ) where
   abbrev pub One : OfferSet → Type 0
   One Y = (i : ℕ) (c d : Category) → completed r j Y i c ≡ true → completed r j Y i d ≡ true → c ≡ d
 
-  merit-marks : length (marksOn r j) ≡ meritLength r j
+  pub merit-marks : length (marksOn r j) ≡ meritLength r j
   merit-marks = length-map (instituteAt r j .merit) _
 
   pub step-number : (Y : OfferSet) (i : ℕ) → stepFor r j Y i ≤ length (instituteAt r j .steps)
@@ -101,15 +102,27 @@ module _ (r : Round) (j : ℕ) where
           | no l ↦ rw (step-absent Y i l) (sym (completed-off r j Y i c l))
         ]
 
-    pub same-steps-on : (Y Y' : OfferSet) → One Y'
-        → ((i : ℕ) → i < n → (c : Category) → Y i c ≡ true → Y' i c ≡ true)
-        → ((i : ℕ) → i < n → (c : Category) → completed r j Y' i c ≡ true → Y i c ≡ true)
-        → stepsOn r j Y ≡ stepsOn r j Y'
-    unfolding stepsOn
-    same-steps-on Y Y' one fewer held =
-        same-steps (marksOn r j) (λ reserved. takingForUse reserved (marksOn r j)) (instituteAt r j .steps) (lawful r j sound) (atPlaces r j Y) (atPlaces r j Y')
-        (λ p l c. fewer (candidateOn r j p) (candidate-below r j sound p (omega (arith, merit-marks))) c)
-        (λ p l c t.
-        let m : p < meritLength r j = omega (arith, merit-marks) in
-        held (candidateOn r j p) (candidate-below r j sound p m) c (completed-here r j sound Y' p c m ∙ t))
-        (alone Y' one)
+    -- offers between those taken and those made
+    module _ (Y Y' : OfferSet) (one : One Y')
+        (fewer : (i : ℕ) → i < n → (c : Category) → Y i c ≡ true → Y' i c ≡ true)
+        (held : (i : ℕ) → i < n → (c : Category) → completed r j Y' i c ≡ true → Y i c ≡ true) where
+      abbrev taking : TakesForUse (marksOn r j)
+      taking reserved = takingForUse reserved (marksOn r j)
+
+      fewer-here : WithinBelow (length (marksOn r j)) (atPlaces r j Y) (atPlaces r j Y')
+      fewer-here p l c = fewer (candidateOn r j p) (candidate-below r j sound p (omega (arith, merit-marks))) c
+
+      held-here : WithinBelow (length (marksOn r j)) (completedAt r j Y') (atPlaces r j Y)
+      held-here p l c t =
+          let m : p < meritLength r j = omega (arith, merit-marks) in
+          held (candidateOn r j p) (candidate-below r j sound p m) c (completed-here r j sound Y' p c m ∙ t)
+
+      pub same-steps-on : stepsOn r j Y ≡ stepsOn r j Y'
+      unfolding stepsOn
+      same-steps-on =
+          same-steps (marksOn r j) taking (instituteAt r j .steps) (lawful r j sound) (atPlaces r j Y) (atPlaces r j Y') fewer-here held-here (alone Y' one)
+
+      pub same-account-on : accountOn r j Y ≡ accountOn r j Y'
+      unfolding accountOn
+      same-account-on =
+          same-account (marksOn r j) taking (instituteAt r j .steps) (lawful r j sound) (atPlaces r j Y) (atPlaces r j Y') fewer-here held-here (alone Y' one)

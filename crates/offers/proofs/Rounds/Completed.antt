@@ -2,7 +2,7 @@
 use mathlib.Core.Path.{_≡_, sym, _∙_, ap, subst}
 use mathlib.Core.Bool.{Bool, true, false, _&&_}
 use mathlib.Core.Logic.{_⊎_, inl, inr}
-use mathlib.Core.List.{List, [], _∷_, map}
+use mathlib.Core.List.{List, [], _∷_}
 use Prim.Native.Nat.{ℕ, suc, _-_, _≤_, _<_}
 use native.Mathlib.Omega.{arith}
 use native.Mathlib.Decide.{decLt}
@@ -12,14 +12,14 @@ use borrow.Author.Tests.{ltb-true, lt-ltb, le-ltb}
 use Rattle.round.specs.declared.entry.Category.{Category}
 use Rattle.round.specs.Lists.{sum, sumOf}
 use Rattle.round.specs.Round.{StepRule, Round}
-use Rattle.round.specs.Places.{candidateAt, instituteAt, noStep}
+use Rattle.round.specs.Places.{instituteAt, noStep}
 use Rattle.round.specs.Sound.{SoundInstitute}
 use Rattle.round.proofs.Words.{and-fst}
 use Rattle.choice.proofs.Taking.{takingForUse}
 use Rattle.choice.proofs.Offers.{offersIn}
 use Rattle.choice.proofs.Completion.{Lawful, completion, completion-within, completion-stays, completion-grows, totalTaken}
 use Rattle.choice.proofs.Counting.{sumOf-ext}
-use Rattle.offers.specs.Offers.{OfferSet, candidateOn, placeOn}
+use Rattle.offers.specs.Offers.{OfferSet, candidateOn, marksOn, atPlaces, placeOn}
 use Rattle.offers.proofs.Market.DoubleSums.{sum-through}
 use Rattle.offers.proofs.Rounds.Fives.{five, five-same, five-none, five-is}
 use Rattle.offers.proofs.Rounds.Places.{meritLength, candidate-at, candidate-below, place-of}
@@ -31,15 +31,8 @@ lawful-steps [] h = tt
 lawful-steps (rule ∷ rules) h = (h 0 (omega arith), lawful-steps rules (λ s l. h (suc s) (omega arith)))
 
 module _ (r : Round) (j : ℕ) where
-  abbrev pub marksOn : List ℕ
-  marksOn = map (λ number. candidateAt r (number - 1) .marks) (instituteAt r j .merit)
-
-  -- the offers of candidates as offers of places
-  abbrev pub atPlaces : OfferSet → ℕ → Category → Bool
-  atPlaces Y p c = Y (candidateOn r j p) c
-
   abbrev pub completedAt : OfferSet → ℕ → Category → Bool
-  completedAt Y = completion marksOn (instituteAt r j .steps) (atPlaces Y)
+  completedAt Y = completion (marksOn r j) (instituteAt r j .steps) (atPlaces r j Y)
 
   unfoldable pub completed : OfferSet → OfferSet
   completed Y i c = ltb (placeOn r j i) (meritLength r j) && completedAt Y (placeOn r j i) c
@@ -60,7 +53,7 @@ module _ (r : Round) (j : ℕ) where
   completed-within Y i c t =
       let l : placeOn r j i < meritLength r j = completed-placed Y i c t in
       let t' : completedAt Y (placeOn r j i) c ≡ true = sym (completed-on Y i c l) ∙ t in
-      subst (λ i. Y i c ≡ true) (candidate-at r j i l) (completion-within marksOn (instituteAt r j .steps) (atPlaces Y) (placeOn r j i) c t')
+      subst (λ i. Y i c ≡ true) (candidate-at r j i l) (completion-within (marksOn r j) (instituteAt r j .steps) (atPlaces r j Y) (placeOn r j i) c t')
 
   module _ {n types : ℕ} (sound : SoundInstitute n types (instituteAt r j)) where
     pub lawful : Lawful (instituteAt r j .steps)
@@ -72,7 +65,7 @@ module _ (r : Round) (j : ℕ) where
         elim (decLt (placeOn r j i) (meritLength r j)) [
           | yes l ↦
               completed-on Y' i c l
-              ∙ completion-stays marksOn (λ reserved. takingForUse reserved marksOn) (instituteAt r j .steps) lawful (atPlaces Y) (atPlaces Y')
+              ∙ completion-stays (marksOn r j) (λ reserved. takingForUse reserved (marksOn r j)) (instituteAt r j .steps) lawful (atPlaces r j Y) (atPlaces r j Y')
               (λ p d. s (candidateOn r j p) d)
               (placeOn r j i)
               c
@@ -93,7 +86,7 @@ module _ (r : Round) (j : ℕ) where
         completed-on Y (candidateOn r j p) c (omega arith) ∙ ap (λ k. completedAt Y k c) q
 
     -- what is taken of candidates is what is taken of places
-    completed-total : (Y : OfferSet) → sumOf n (λ i. five (completed Y i)) ≡ totalTaken marksOn (instituteAt r j .steps) (atPlaces Y)
+    completed-total : (Y : OfferSet) → sumOf n (λ i. five (completed Y i)) ≡ totalTaken (marksOn r j) (instituteAt r j .steps) (atPlaces r j Y)
     unfolding totalTaken
     completed-total Y =
         sum-through (meritLength r j) n (candidateOn r j) (placeOn r j) (candidate-below r j sound) (place-of r j sound)
@@ -118,5 +111,5 @@ module _ (r : Round) (j : ℕ) where
           arith,
           completed-total Y,
           completed-total Y',
-          completion-grows marksOn (λ reserved. takingForUse reserved marksOn) (instituteAt r j .steps) lawful (atPlaces Y) (atPlaces Y') (λ p c. s (candidateOn r j p) c),
+          completion-grows (marksOn r j) (λ reserved. takingForUse reserved (marksOn r j)) (instituteAt r j .steps) lawful (atPlaces r j Y) (atPlaces r j Y') (λ p c. s (candidateOn r j p) c),
         )

@@ -30,7 +30,7 @@ module _ {types : ℕ} {r : Round} (sound : Sound types r) {tried : List ℕ} (r
   seat = getD (seatsAfter r tried) i noSeat
 
   -- a seat at institute j is the step there
-  seated-at : seat .institute ≡ suc j → (stepIn r tried j i ≢ 0) × (seat ≡ record { institute = suc j; step = stepIn r tried j i })
+  pub seated-at : seat .institute ≡ suc j → (stepIn r tried j i ≢ 0) × (seat ≡ record { institute = suc j; step = stepIn r tried j i })
   seated-at e = go (seat-of sound run i hi)
     where
       go : Seated r tried i ⊎ Unseated r tried i → (stepIn r tried j i ≢ 0) × (seat ≡ record { institute = suc j; step = stepIn r tried j i })

@@ -1,20 +1,18 @@
 -- The choices of one institute after the other: what the table of steps holds on the way.
 use Prim.Native.Nat.{ℕ, suc, _+_, _≤_, _<_}
 use mathlib.Core.Path.{_≡_, refl, sym, _∙_, ap}
-use mathlib.Core.Bool.{cond, and-false}
+use mathlib.Core.Bool.{cond}
 use mathlib.Core.Logic.{_≢_}
 use mathlib.Core.List.{List}
 use native.Mathlib.Omega.{arith}
-use lib.Dec.{ltb}
 use lib.ListN.{length, getD, set, length-set}
 use lib.Seq.{getD-set-other}
-use borrow.Author.Tests.{ne-eqb}
 use Rattle.round.specs.Round.{Round}
-use Rattle.round.specs.Places.{instituteAt}
 use Rattle.choice.proofs.Counting.{sameOr}
-use Rattle.offers.specs.Offers.{placeOn, stepFor}
+use Rattle.offers.specs.Offers.{stepFor}
 use Rattle.offers.specs.Process.{candidateCount}
-use Rattle.offers.specs.Sweeps.{offerTo, offersBy, takesPart, ChosenAnew, ChosenAll}
+use Rattle.offers.specs.Sweeps.{offerTo, offersBy, takesPart, PutFor, ChosenAnew, ChosenAll}
+use Rattle.offers.proofs.Sweeps.Lasts.{no-part}
 
 -- the marks of the institutes still to come are those from before
 pub record Choosing (r : Round) (asked wanted fresh₀ : List ℕ) (k : ℕ) (steps₀ steps fresh : List ℕ) : Type 0 where
@@ -46,8 +44,7 @@ module _ (r : Round) (asked wanted fresh₀ steps₀ : List ℕ) where
     -- whoever asked another institute last has the step from before the choice of institute k
     untouched : {steps' : List ℕ} → ChosenAnew r k asked wanted steps steps' → (c : ℕ) → c < candidateCount r → getD asked c 0 ≢ suc k
         → getD steps' c 0 ≡ getD steps c 0
-    unfolding takesPart offerTo
-    untouched a c hc n = a .step c hc ∙ rw (ne-eqb (getD asked c 0) (suc k) n, and-false (ltb (placeOn r k c) (length (instituteAt r k .merit))))
+    untouched a c hc n = a .at c hc ∙ rw (no-part r k asked wanted c n)
 
     -- institute k has chosen
     pub one-chosen : getD fresh k 0 ≢ 0 → {steps₁ steps' fresh' : List ℕ} → fresh' ≡ set fresh k 0 → steps' ≡ steps₁ → ChosenAnew r k asked wanted steps steps₁
@@ -67,7 +64,7 @@ module _ (r : Round) (asked wanted fresh₀ steps₀ : List ℕ) where
         here : (c : ℕ) → c < candidateCount r → getD asked c 0 ≡ suc k → getD steps₁ c 0
             ≡ cond (takesPart r k (offerTo (suc k) asked wanted) c) (stepFor r k (offersBy (offerTo (suc k) asked wanted)) c) (getD steps₀ c 0)
         here c hc e =
-            a .step c hc
+            a .at c hc
             ∙ ap (λ x. cond (takesPart r k (offerTo (suc k) asked wanted) c) (stepFor r k (offersBy (offerTo (suc k) asked wanted)) c) x)
             (s .chosen .kept c hc (λ j l w. absurd (omega arith)))
 

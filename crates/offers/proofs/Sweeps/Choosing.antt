@@ -1,4 +1,4 @@
--- The choice among the listed offers is the institute's choice from those offers, and what is put into the table of steps is that choice.
+-- The choice among the listed offers is the institute's choice from those offers, and what is put into a table is that choice.
 use Prim.Native.Nat.{ℕ, zero, suc, _-_, _≤_, _<_}
 use mathlib.Core.Path.{_≡_, refl, sym, _∙_, ap}
 use mathlib.Core.Bool.{Bool, true, false, cond, not}
@@ -7,7 +7,7 @@ use native.Mathlib.Omega.{arith}
 use native.Mathlib.Nat.{zero-div}
 use lib.Dec.{eqb, ltb}
 use lib.ListN.{length, getD, take, replicate, length-map}
-use lib.Seq.{length-take-le}
+use lib.Seq.{length-take-le, getD-take}
 use borrow.Author.Tests.{ltb-true, lt-ltb, eqb-true, not-false}
 use Rattle.round.specs.declared.entry.Category.{Category}
 use Rattle.round.specs.Category.{codeOf}
@@ -17,20 +17,20 @@ use Rattle.round.specs.declared.head.Head.{Head as CodeHead}
 use Rattle.round.specs.Reading.{roundOf}
 use Rattle.round.specs.Places.{candidateAt, instituteAt}
 use Rattle.round.specs.Sound.{SoundInstitute}
-use Rattle.round.proofs.Words.{and-fst, and-snd}
+use Rattle.round.proofs.Words.{and-fst, and-snd, tabulate-at}
 use Rattle.choice.specs.Use.{holds}
 use Rattle.choice.specs.Choice.{choose}
+use Rattle.choice.specs.Account.{account, usedIn, usesIn}
 use Rattle.choice.specs.Offers.{offeredBy}
 use Rattle.choice.specs.Gathers.{Gathers}
-use Rattle.choice.proofs.Steps.{sized}
 use Rattle.choice.proofs.Counting.{test, clash}
-use Rattle.choice.proofs.Fewer.{SameAmong, number-below, choose-gathered}
-use Rattle.offers.specs.Offers.{candidateOn, placeOn, stepsOn, stepFor}
+use Rattle.choice.proofs.Fewer.{SameAmong, number-below, choose-gathered, used-gathered}
+use Rattle.offers.specs.Offers.{candidateOn, marksOn, atPlaces, placeOn, stepsOn, accountOn, stepFor, usedFor}
+use Rattle.offers.specs.Process.{candidateCount}
 use Rattle.offers.specs.Held.{AtHand}
-use Rattle.offers.specs.Sweeps.{offerTo, marksOf, offersBy, offersAt, takesPart, Gathered, ChosenAnew, Apart, Scattered}
+use Rattle.offers.specs.Sweeps.{offerTo, marksOf, offersBy, offersAt, takesPart, Gathered, ChosenListed, PutFor, Apart, Scattered}
 use Rattle.offers.proofs.Rounds.Places.{meritLength, candidate-at, candidate-below, place-of}
-use Rattle.offers.proofs.Rounds.Completed.{marksOn, atPlaces}
-use Rattle.offers.proofs.Sweeps.Known.{institute-sound, merit-few, candidates-many, knows-merit}
+use Rattle.offers.proofs.Sweeps.Known.{institute-sound, merit-few, knows-merit}
 use Rattle.offers.proofs.Sweeps.Gathers.{count-most, gathers-front, place-at}
 
 getD-map-in : (f : ℕ → ℕ) (l : List ℕ) (p : ℕ) → p < length l → getD (map f l) p 0 ≡ f (getD l p 0)
@@ -44,7 +44,7 @@ unfolding holds
 none-held t = rw zero-div
 
 -- k offers are listed: who makes each, the marks and the offer
-module _ (r : Round) (j : ℕ) {n types : ℕ} (sound : SoundInstitute n types (instituteAt r j)) (offer : ℕ → ℕ) {who marks offers : List ℕ} {k : ℕ}
+module _ (r : Round) (j : ℕ) {types : ℕ} (sound : SoundInstitute (candidateCount r) types (instituteAt r j)) (offer : ℕ → ℕ) {who marks offers : List ℕ} {k : ℕ}
     (g : Gathered r j offer (meritLength r j) who marks offers k) where
   abbrev X : ℕ → Bool
   X = offersAt r j offer
@@ -55,17 +55,14 @@ module _ (r : Round) (j : ℕ) {n types : ℕ} (sound : SoundInstitute n types (
   listed-most : k ≤ L
   listed-most = omega (arith, g .number, count-most X L)
 
-  who-front : Gathers X L (candidateOn r j) (take k who)
-  who-front = gathers-front X L (candidateOn r j) who k (g .number) (g .who-at)
-
   -- a candidate of the list stands at a place with an offer, whose number is that of the candidate
-  listed : (q : ℕ) → q < k → (p : ℕ) × (p < L) × (X p ≡ true) × (count p X ≡ q) × (getD (take k who) q 0 ≡ candidateOn r j p)
+  listed : (q : ℕ) → q < k → (p : ℕ) × (p < L) × (X p ≡ true) × (count p X ≡ q) × (getD who q 0 ≡ candidateOn r j p)
   listed q l =
       let (p, m, x, at) = place-at X L q (omega (arith, g .number)) in
-      (p, m, x, at, ap (λ (q : ℕ). getD (take k who) q 0) (sym at) ∙ who-front p m x)
+      (p, m, x, at, ap (λ (q : ℕ). getD who q 0) (sym at) ∙ g .who-at p m x)
 
-  listed-apart : {m : ℕ} → n ≡ m → Apart (take k who) m k
-  listed-apart e = record {
+  listed-apart : Apart who (candidateCount r) k
+  listed-apart = record {
     within = λ q l. let (p, m, x, at, is) = listed q l in omega (arith, is, candidate-below r j sound p m);
     once = λ q q' l m same.
         let (p, b, x, at, is) = listed q l in
@@ -87,46 +84,69 @@ module _ (r : Round) (j : ℕ) {n types : ℕ} (sound : SoundInstitute n types (
       gathers-front X L _ marks k (g .number) (g .marks-at) p l x
       ∙ sym (getD-map-in (λ number. candidateAt r (number - 1) .marks) (instituteAt r j .merit) p l)
 
-  -- what is chosen among the listed is what is chosen among all
-  module _ {found : List ℕ} {rules : List StepRule} (fits : k ≤ length marks) (ec : found ≡ choose (take k marks) (offeredBy (take k offers)) rules)
-      (er : rules ≡ instituteAt r j .steps) where
-    found-at : (p : ℕ) → p < L → X p ≡ true → getD found (count p X) 0 ≡ getD (stepsOn r j (offersBy offer)) p 0
-    unfolding stepsOn
-    found-at p l x =
-        ap (λ (t : List ℕ). getD t (count p X) 0) ec
-        ∙ sym (choose-gathered X L (marksOn r j) (take k marks) (length-map (instituteAt r j .merit) _) (length-take-le k marks fits ∙ g .number) marks-front
-        (atPlaces r j (offersBy offer)) (offeredBy (take k offers)) offers-same rules p l x)
-        ∙ ap (λ (s : List StepRule). getD (choose (marksOn r j) (atPlaces r j (offersBy offer)) s) p 0) er
-
   -- whoever takes part stands at a place with an offer
-  part-at : (c : ℕ) → takesPart r j offer c ≡ true → (placeOn r j c < L) × (X (placeOn r j c) ≡ true) × (getD (take k who) (count (placeOn r j c) X) 0 ≡ c)
+  part-at : (c : ℕ) → takesPart r j offer c ≡ true → (placeOn r j c < L) × (X (placeOn r j c) ≡ true) × (getD who (count (placeOn r j c) X) 0 ≡ c)
   unfolding takesPart
   part-at c t =
       let l : placeOn r j c < L = ltb-true _ _ (and-fst (ltb (placeOn r j c) L) _ t) in
       let here : candidateOn r j (placeOn r j c) ≡ c = candidate-at r j c l in
       let x : X (placeOn r j c) ≡ true = ap (λ b. not (eqb (offer b) 0)) here ∙ and-snd (ltb (placeOn r j c) L) _ t in
-      (l, x, who-front (placeOn r j c) l x ∙ here)
+      (l, x, g .who-at (placeOn r j c) l x ∙ here)
 
   part-number : (c : ℕ) → takesPart r j offer c ≡ true → count (placeOn r j c) X < k
   part-number c t = let (l, x, is) = part-at c t in omega (arith, g .number, number-below X (placeOn r j c) L l x)
 
+  listed-place : (q p : ℕ) → p < L → getD who q 0 ≡ candidateOn r j p → placeOn r j (getD who q 0) ≡ p
+  listed-place q p m is = ap (placeOn r j) is ∙ place-of r j sound p m
+
   -- and everybody on the list takes part
-  listed-part : (q : ℕ) → q < k → takesPart r j offer (getD (take k who) q 0) ≡ true
+  listed-part : (q : ℕ) → q < k → takesPart r j offer (getD who q 0) ≡ true
   unfolding takesPart
   listed-part q l =
       let (p, m, x, at, is) = listed q l in
-      let place : placeOn r j (getD (take k who) q 0) ≡ p = ap (placeOn r j) is ∙ place-of r j sound p m in
-      rw (lt-ltb (placeOn r j (getD (take k who) q 0)) L (omega arith), is) x
+      let place = listed-place q p m is in
+      rw (lt-ltb (placeOn r j (getD who q 0)) L (omega arith), is) x
 
-  -- a table after values were put into it at the listed candidates
-  seat-at : {value : ℕ → ℕ} {before after : List ℕ} → Scattered (take k who) value k before after
-      → (c : ℕ) → getD after c 0 ≡ cond (takesPart r j offer c) (value (count (placeOn r j c) X)) (getD before c 0)
-  seat-at {value} {before} {after} s c =
-      test (takesPart r j offer c)
-      (λ t.
-      let (l, x, is) = part-at c t in
-      rw t (ap (λ (b : ℕ). getD after b 0) (sym is) ∙ s .at (count (placeOn r j c) X) (part-number c t)))
-      (λ t. rw t (s .off c (λ q m e. clash (ap (takesPart r j offer) (sym e) ∙ listed-part q m) t)))
+  -- what is chosen among the listed is what is chosen among all
+  module _ {found used : List ℕ} {rules : List StepRule} (fits : k ≤ length marks)
+      (chose : (found ≡ choose (take k marks) (offeredBy (take k offers)) rules) × (used ≡ usesIn (length (take k marks)) (account (take k marks) (offeredBy (take k offers)) rules)))
+      (er : rules ≡ instituteAt r j .steps) where
+    front-long : length (take k marks) ≡ count L X
+    front-long = length-take-le k marks fits ∙ g .number
+
+    found-at : (p : ℕ) → p < L → X p ≡ true → getD found (count p X) 0 ≡ getD (stepsOn r j (offersBy offer)) p 0
+    unfolding stepsOn
+    found-at p l x =
+        ap (λ (t : List ℕ). getD t (count p X) 0) (chose .0)
+        ∙ sym (choose-gathered X L (marksOn r j) (take k marks) (length-map (instituteAt r j .merit) _) front-long marks-front
+        (atPlaces r j (offersBy offer)) (offeredBy (take k offers)) offers-same rules p l x)
+        ∙ ap (λ (s : List StepRule). getD (choose (marksOn r j) (atPlaces r j (offersBy offer)) s) p 0) er
+
+    used-at : (p : ℕ) → p < L → X p ≡ true → getD used (count p X) 0 ≡ cond (usedIn (accountOn r j (offersBy offer)) p) 1 0
+    unfolding accountOn usesIn
+    used-at p l x =
+        ap (λ (t : List ℕ). getD t (count p X) 0) (chose .1)
+        ∙ tabulate-at (length (take k marks)) _ 0 (count p X) (omega (arith, front-long, number-below X p L l x))
+        ∙ ap (λ b. cond b 1 0)
+        (sym (used-gathered X L (marksOn r j) (take k marks) (length-map (instituteAt r j .merit) _) front-long marks-front
+        (atPlaces r j (offersBy offer)) (offeredBy (take k offers)) offers-same rules p l x)
+        ∙ ap (λ (s : List StepRule). usedIn (account (marksOn r j) (atPlaces r j (offersBy offer)) s) p) er)
+
+    chosen-listed : {chosen uses : List ℕ} → L ≤ 512 → ((q : ℕ) → q < k → getD chosen q 0 ≡ getD found q 0) → ((q : ℕ) → q < k → getD uses q 0 ≡ getD used q 0)
+        → ChosenListed r j offer who chosen uses k
+    unfolding stepFor usedFor
+    chosen-listed few ec eu = record {
+      few = omega (arith, listed-most);
+      apart = listed-apart;
+      part = listed-part;
+      each = λ c t. (count (placeOn r j c) X, part-number c t, part-at c t .2);
+      chosen-at = λ q l.
+          let (p, m, x, at, is) = listed q l in
+          ec q l ∙ ap (λ q. getD found q 0) (sym at) ∙ found-at p m x ∙ ap (λ p. getD (stepsOn r j (offersBy offer)) p 0) (sym (listed-place q p m is));
+      used-at = λ q l.
+          let (p, m, x, at, is) = listed q l in
+          eu q l ∙ ap (λ q. getD used q 0) (sym at) ∙ used-at p m x ∙ ap (λ p. cond (usedIn (accountOn r j (offersBy offer)) p) 1 0) (sym (listed-place q p m is));
+    }
 
 -- the offers to an institute of the file are listed, in tables that had room for every candidate
 module _ {file : List ℕ} {h : CodeHead} {candidates merits : List ℕ} (hand : AtHand file h candidates merits) {j : ℕ} (inside : j < h .institutes) (asked wanted : List ℕ)
@@ -136,30 +156,56 @@ module _ {file : List ℕ} {h : CodeHead} {candidates merits : List ℕ} (hand :
       let known = knows-merit hand inside in
       omega (arith, merit-few known, listed-most (roundOf file) j (institute-sound known) (offerTo (suc j) asked wanted) g)
 
-  pub front-fits : (l₀ l : List ℕ) → l₀ ≡ replicate 512 0 → length l ≡ length l₀ → k ≤ length l
-  front-fits l₀ l zeros same = omega (arith, listed-few, sized 512 zeros)
+  pub front-fits : (l₀ l : List ℕ) → 512 ≤ length l₀ → length l ≡ length l₀ → k ≤ length l
+  front-fits l₀ l room same = omega (arith, listed-few)
 
-  pub front-apart : (steps : List ℕ) → length steps ≡ h .candidates → Apart (take k who) (length steps) k
-  front-apart steps each =
-      listed-apart (roundOf file) j (institute-sound (knows-merit hand inside)) (offerTo (suc j) asked wanted) g (candidates-many hand ∙ sym each)
+  -- listed and chosen among
+  pub listed-chosen : {chosen uses found used : List ℕ} {rules : List StepRule} → k ≤ length marks
+      → (found ≡ choose (take k marks) (offeredBy (take k offers)) rules) × (used ≡ usesIn (length (take k marks)) (account (take k marks) (offeredBy (take k offers)) rules))
+      → rules ≡ instituteAt (roundOf file) j .steps
+      → ((q : ℕ) → q < k → getD chosen q 0 ≡ getD found q 0) → ((q : ℕ) → q < k → getD uses q 0 ≡ getD used q 0)
+      → ChosenListed (roundOf file) j (offerTo (suc j) asked wanted) who chosen uses k
+  listed-chosen fits chose er =
+      let known = knows-merit hand inside in
+      chosen-listed (roundOf file) j (institute-sound known) (offerTo (suc j) asked wanted) g fits chose er (merit-few known)
 
-  -- listed, chosen and put into the table
-  pub chosen-anew : {steps₀ steps found : List ℕ} {rules : List StepRule} → k ≤ length who → k ≤ length marks
-      → found ≡ choose (take k marks) (offeredBy (take k offers)) rules → rules ≡ instituteAt (roundOf file) j .steps
-      → Scattered (take k who) (λ q. getD found q 0) (length (take k who)) steps₀ steps
-      → ChosenAnew (roundOf file) j asked wanted steps₀ steps
-  unfolding stepFor
-  chosen-anew {steps₀} {steps} {found} fits fit ec er s =
-      let offer : ℕ → ℕ = offerTo (suc j) asked wanted in
-      let sound = institute-sound (knows-merit hand inside) in
-      let s' : Scattered (take k who) (λ q. getD found q 0) k steps₀ steps = rw (length-take-le k who fits) at s in
+-- what was chosen is put into a table at those who take part
+module _ {r : Round} {j : ℕ} {offer : ℕ → ℕ} {who chosen uses : List ℕ} {k : ℕ} (l : ChosenListed r j offer who chosen uses k) where
+  pub who-apart : {n : ℕ} → candidateCount r ≡ n → k ≤ length who → Apart (take k who) n (length (take k who))
+  who-apart e fits =
+      rw (length-take-le k who fits)
       record {
-        many = s .many;
-        step = λ c l.
-            seat-at (roundOf file) j sound offer g s' c
-            ∙ test (takesPart (roundOf file) j offer c)
-            (λ t.
-            let (m, x, is) = part-at (roundOf file) j sound offer g c t in
-            rw (t, found-at (roundOf file) j sound offer g fit ec er (placeOn (roundOf file) j c) m x))
-            (λ t. rw t);
+        within = λ q m. omega (arith, getD-take k who q 0 m, l .apart .within q m);
+        once = λ q p m s same. l .apart .once q p m s (sym (getD-take k who p 0 (omega arith)) ∙ same ∙ getD-take k who q 0 m);
       }
+
+  put-for : (value : ℕ → ℕ) (values : List ℕ) {before after : List ℕ} → k ≤ length who → ((q : ℕ) → q < k → getD values q 0 ≡ value (getD who q 0))
+      → Scattered (take k who) (λ q. getD (take k values) q 0) (length (take k who)) before after → PutFor r j offer value before after
+  put-for value values {before} {after} fits same s = record {
+    many = s .many;
+    at = λ c hc.
+        test (takesPart r j offer c)
+        (λ t.
+        let (q, m, is) = l .each c t in
+        let at : q < length (take k who) = omega (arith, length-take-le k who fits) in
+        rw t
+        (ap (λ (b : ℕ). getD after b 0) (sym (getD-take k who q 0 m ∙ is))
+        ∙ s .at q at
+        ∙ getD-take k values q 0 m
+        ∙ same q m
+        ∙ ap value is))
+        (λ f.
+        rw f
+        (s .off c
+        (λ q m e.
+        let at : q < k = omega (arith, length-take-le k who fits) in
+        clash (ap (takesPart r j offer) (sym (sym (getD-take k who q 0 at) ∙ e)) ∙ l .part q at) f)));
+  }
+
+  pub steps-put : {before after : List ℕ} → k ≤ length who → Scattered (take k who) (λ q. getD (take k chosen) q 0) (length (take k who)) before after
+      → PutFor r j offer (stepFor r j (offersBy offer)) before after
+  steps-put fits = put-for _ chosen fits (l .chosen-at)
+
+  pub uses-put : {before after : List ℕ} → k ≤ length who → Scattered (take k who) (λ q. getD (take k uses) q 0) (length (take k who)) before after
+      → PutFor r j offer (usedFor r j (offersBy offer)) before after
+  uses-put fits = put-for _ uses fits (l .used-at)

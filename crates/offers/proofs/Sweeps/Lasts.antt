@@ -1,23 +1,25 @@
 -- The entry that a candidate tried last, as the tables have it.
 use Prim.Native.Nat.{ℕ, suc, _^_, _<_}
 use mathlib.Core.Path.{_≡_, refl, sym, _∙_}
-use mathlib.Core.Bool.{Bool, true, false, cond, not, _&&_}
+use mathlib.Core.Bool.{Bool, true, false, cond, not, _&&_, and-false}
 use mathlib.Core.Logic.{_≢_, _⊎_, inl, inr}
 use mathlib.Core.List.{List}
 use native.Mathlib.Omega.{arith}
-use lib.Dec.{eqb}
-use lib.ListN.{getD}
+use lib.Dec.{eqb, ltb}
+use lib.ListN.{length, getD}
 use borrow.Author.Tests.{eqb-true, eqb-false, eq-eqb, ne-eqb, not-true}
 use Rattle.round.specs.declared.entry.Category.{Category}
 use Rattle.round.specs.Category.{codeOf}
 use Rattle.round.specs.Lists.{bit, all}
 use Rattle.round.specs.Round.{Round}
+use Rattle.round.specs.Places.{instituteAt}
 use Rattle.round.proofs.Words.{all-at}
 use Rattle.choice.specs.Use.{holds}
 use Rattle.choice.proofs.Steps.{code-small}
 use Rattle.offers.specs.Rows.{rowAt, rankIn, entryOf, sameEntry}
+use Rattle.offers.specs.Offers.{placeOn}
 use Rattle.offers.specs.Process.{instituteCount}
-use Rattle.offers.specs.Sweeps.{lastTo, offerTo, offersBy}
+use Rattle.offers.specs.Sweeps.{lastTo, offerTo, offersBy, takesPart}
 
 -- nothing is tried yet
 pub record Untried (state asked : List ℕ) (i : ℕ) : Type 0 where
@@ -46,7 +48,7 @@ bits-same true false e = absurd (omega arith)
 bits-same false true e = absurd (omega arith)
 bits-same false false e = refl
 
-holds-only : (d c : Category) → holds (2 ^ codeOf d) (codeOf c) ≡ eqb (codeOf d) (codeOf c)
+pub holds-only : (d c : Category) → holds (2 ^ codeOf d) (codeOf c) ≡ eqb (codeOf d) (codeOf c)
 unfolding only-has holds
 holds-only d c =
     bits-same _ _
@@ -55,9 +57,14 @@ holds-only d c =
     (all-at 5 (λ a. all 5 (only-has a)) refl (codeOf d) (omega (arith, code-small d)))
     (codeOf c) (omega (arith, code-small c))))
 
-holds-none : (c : Category) → holds 0 (codeOf c) ≡ false
+pub holds-none : (c : Category) → holds 0 (codeOf c) ≡ false
 unfolding holds
 holds-none c = not-true _ (all-at 5 (λ b. not (holds 0 b)) refl (codeOf c) (omega (arith, code-small c)))
+
+-- a set of one category is not empty
+pub only-some : (c : Category) → 2 ^ codeOf c ≢ 0
+only-some c =
+    eqb-false (2 ^ codeOf c) 0 (not-true _ (all-at 5 (λ a. not (eqb (2 ^ a) 0)) refl (codeOf c) (omega (arith, code-small c))))
 
 -- the offers by the tables are those of the entries tried last
 pub offers-last : {r : Round} {state asked wanted : List ℕ} {i : ℕ} → LastIn r state asked wanted i → (j : ℕ) (c : Category)
@@ -77,7 +84,9 @@ pub offer-some : {r : Round} {state asked wanted : List ℕ} {i : ℕ} → LastI
     → offerTo (suc j) asked wanted i ≢ 0
 unfolding offerTo
 offer-some (inl u) j e z = omega (arith, u .nobody)
-offer-some {asked = asked} {i = i} (inr k) j e z =
-    eqb-false (2 ^ codeOf (k .category)) 0
-    (not-true _ (all-at 5 (λ a. not (eqb (2 ^ a) 0)) refl (codeOf (k .category)) (omega (arith, code-small (k .category)))))
-    (rw (eq-eqb (getD asked i 0) (suc j) e, k .wanted-at) at z)
+offer-some {asked = asked} {i = i} (inr k) j e z = only-some (k .category) (rw (eq-eqb (getD asked i 0) (suc j) e, k .wanted-at) at z)
+
+-- who asked another institute takes no part
+pub no-part : (r : Round) (j : ℕ) (asked wanted : List ℕ) (c : ℕ) → getD asked c 0 ≢ suc j → takesPart r j (offerTo (suc j) asked wanted) c ≡ false
+unfolding takesPart offerTo
+no-part r j asked wanted c n = rw (ne-eqb (getD asked c 0) (suc j) n) (and-false (ltb (placeOn r j c) (length (instituteAt r j .merit))))

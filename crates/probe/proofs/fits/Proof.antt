@@ -24,9 +24,12 @@ returns-4 : tie.Need-returns-4
 returns-4 c = search (needs, le-leb, eq-eqb, ne-eqb)
 
 returns-5 : tie.Need-returns-5
-returns-5 c = search (needs, le-leb, eq-eqb)
+returns-5 c = search (needs, le-leb, eq-eqb, ne-eqb)
+
+returns-6 : tie.Need-returns-6
+returns-6 c = search (needs, le-leb, eq-eqb)
 
 pub fits-spec : {M : Type 1} → statement M
 fits-spec =
     tie.close
-    (tie.spec returns mul-if2 add-if2 returns-2 returns-3 returns-4 returns-5)
+    (tie.spec returns mul-if2 add-if2 returns-2 returns-3 returns-4 returns-5 returns-6)

@@ -1,4 +1,4 @@
--- `probe::tazbilk_choose` meets its contract: where the lengths fit the steps are those of the choice, and else they stay.
+-- `probe::tazbilk_choose` meets its contract: where the lengths fit the steps and notes are those of the choice, and else they stay.
 -- Assumes nothing.
 use mathlib.Core.Path.{_≡_, sym, _∙_}
 use mathlib.Core.Bool.{true}
@@ -6,18 +6,21 @@ use lib.ListN.{length}
 use native.Mathlib.Omega.{arith}
 use borrow.Author.Needs.{needs}
 use Rattle.probe.specs.Probe.{fitting}
-use Rattle.probe.proofs.Fitting.{fitted, rules-chosen, steps-chosen, steps-stay}
+use Rattle.probe.proofs.Fitting.{fitted, chosen, stay}
 use Rattle.probe.proofs.tazbilk_choose.Statement.{statement}
 use Rattle.probe.proofs.tazbilk_choose.Tie as tie
 
 abbrev tested : tie.After-rule-table → tie.After-fits2
 tested m = m .before .before
 
+abbrev begun : tie.After-shared-slice-known → tie.Start
+begun c = c .before
+
 abbrev start : tie.After-rule-table → tie.Start
-start m = tested m .before .before .before .before .before
+start m = begun (tested m .before .before .before .before .before)
 
 fit : (m : tie.After-rule-table) → let a = start m .args in
-    fitting (a .types) (length (a .body .now)) (length (a .marks .now)) (length (a .offers .now)) (length (a .steps .now)) ≡ true
+    fitting (a .types) (length (a .body .now)) (length (a .marks .now)) (length (a .offers .now)) (length (a .steps .now)) (length (a .uses .now)) ≡ true
 fit m = sym (tested m .fits2 .ensures) ∙ m .before .if1 .taken
 
 fits-requires : tie.Need-fits-requires
@@ -33,7 +36,7 @@ rules-of-requires : tie.Need-rules-of-requires
 rules-of-requires c κs =
     let m = c .before in
     let a = start m .args in
-    (fitted (a .body .now) (a .types) (a .policy) (a .marks .now) (a .offers .now) (a .steps .now) (fit m) .0, omega (arith, m .rule-table .ensures))
+    (fitted (a .body .now) (a .types) (a .policy) (a .marks .now) (a .offers .now) (a .steps .now) (a .uses .now) (fit m) .0, omega (arith, m .rule-table .ensures))
 
 slice-aggregate-choose : tie.Need-slice-aggregate-choose
 slice-aggregate-choose c = search needs
@@ -43,22 +46,24 @@ choose-requires c κs =
     let read : tie.After-rules-of = search needs in
     let m = read .before .before in
     let a = start m .args in
-    (read .rules-of .ensures .table-of, fitted (a .body .now) (a .types) (a .policy) (a .marks .now) (a .offers .now) (a .steps .now) (fit m) .1)
+    (read .rules-of .ensures .table-of, fitted (a .body .now) (a .types) (a .policy) (a .marks .now) (a .offers .now) (a .steps .now) (a .uses .now) (fit m) .1)
 
 same-length : tie.Need-same-length
 same-length c = search needs
+
+same-length-2 : tie.Need-same-length-2
+same-length-2 c = search needs
 
 returns : tie.Need-returns
 returns c =
     let read : tie.After-rules-of = search needs in
     let m = read .before .before in
     let a = start m .args in
-    c .before .before .choose .ensures
-    ∙ rules-chosen (a .body .now) (a .types) (a .policy) (a .marks .now) (a .offers .now) (a .steps .now) _ _ (read .rules-of .ensures)
-    ∙ sym (steps-chosen (a .body .now) (a .types) (a .policy) (a .marks .now) (a .offers .now) (a .steps .now) (fit m))
+    let chose : tie.After-choose = search needs in
+    chosen (a .body .now) (a .types) (a .policy) (a .marks .now) (a .offers .now) (a .steps .now) (a .uses .now) _ _ (fit m) (read .rules-of .ensures) (chose .choose .ensures)
 
 returns-2 : tie.Need-returns-2
-returns-2 c = sym (steps-stay _ _ _ _ _ _ (sym (c .before .fits2 .ensures) ∙ c .if1 .left))
+returns-2 c = stay _ _ _ _ _ _ _ (sym (c .before .fits2 .ensures) ∙ c .if1 .left)
 
 pub tazbilk-choose-spec : {M : Type 1} → statement M
 tazbilk-choose-spec =
@@ -71,5 +76,6 @@ tazbilk-choose-spec =
     slice-aggregate-choose
     choose-requires
     same-length
+    same-length-2
     returns
     returns-2)

@@ -1,7 +1,7 @@
 -- The seats and then the closing places are put into the answer area.
 -- Assumes nothing.
 use borrow.Author.Needs.{needs}
-use Rattle.allotment.proofs.Files.Answering.{as-many, institutes-known, closing-known, seats-room, closings-room, answer-put}
+use Rattle.allotment.proofs.Files.Answering.{as-many, institutes-known, seats-room, closings-room, answer-put}
 use Rattle.allotment.proofs.areas.write_answer.Statement.{statement}
 use Rattle.allotment.proofs.areas.write_answer.Tie as tie
 
@@ -12,7 +12,7 @@ mul-write-closings : tie.Need-mul-write-closings
 mul-write-closings c = search needs
 
 write-closings-requires : tie.Need-write-closings-requires
-write-closings-requires c κs = (search closing-known, (search institutes-known, search (needs, closings-room)))
+write-closings-requires c κs = (search needs, (search institutes-known, search (needs, closings-room)))
 
 same-length : tie.Need-same-length
 same-length c = search needs

@@ -9,16 +9,15 @@ use lib.Seq.{sets}
 use Rattle.round.specs.Lists.{tabulate, joined}
 use Rattle.round.specs.Reading.{roundOf}
 use Rattle.allotment.specs.Areas.{closingBytes}
-use Rattle.allotment.specs.Writing.{seatsHeld}
 use Rattle.allotment.proofs.Files.Putting.{institute-put, institutes-put}
 use Rattle.allotment.proofs.areas.write_closings.Statement.{statement}
 use Rattle.allotment.proofs.areas.write_closings.Tie as tie
 
 abbrev Inv-loop : tie.InvT-loop
-Inv-loop file institutes merits holders steps area₀ at j₀ area j = (j ≤ institutes) × (length area ≡ length area₀) × (area ≡ sets area₀ at (joined (tabulate j (closingBytes (roundOf file) (seatsHeld holders steps)))))
+Inv-loop file institutes merits holders steps uses area₀ at j₀ area j = (j ≤ institutes) × (length area ≡ length area₀) × (area ≡ sets area₀ at (joined (tabulate j (closingBytes (roundOf file)))))
 
 abbrev μ-loop : tie.MeasureT-loop
-μ-loop file institutes merits holders steps area₀ at j₀ area j = institutes - j
+μ-loop file institutes merits holders steps uses area₀ at j₀ area j = institutes - j
 
 loop-holds : tie.Need-loop-holds Inv-loop μ-loop
 loop-holds c = (omega arith, refl, refl)

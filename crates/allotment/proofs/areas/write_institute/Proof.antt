@@ -8,31 +8,34 @@ use lib.ListN.{length}
 use lib.Seq.{sets}
 use Rattle.round.specs.Lists.{tabulate, joined}
 use Rattle.round.specs.Reading.{roundOf}
-use Rattle.allotment.specs.Writing.{seatsHeld}
+use Rattle.allotment.specs.Areas.{closingPlaces}
 use Rattle.allotment.proofs.Files.Putting.{closingPieces, closing-put, closings-put}
 use Rattle.allotment.proofs.areas.write_institute.Statement.{statement}
 use Rattle.allotment.proofs.areas.write_institute.Tie as tie
 
 abbrev Inv-loop : tie.InvT-loop
-Inv-loop file merits holders steps j area₀ at k₀ area k = (k ≤ 6) × (length area ≡ length area₀) × (area ≡ sets area₀ at (joined (tabulate k (closingPieces (roundOf file) (seatsHeld holders steps) j))))
+Inv-loop file merits holders steps uses j area₀ at places k₀ area k = (k ≤ 6) × (places ≡ closingPlaces (roundOf file) j) × (length area ≡ length area₀) × (area ≡ sets area₀ at (joined (tabulate k (closingPieces (roundOf file) j))))
 
 abbrev μ-loop : tie.MeasureT-loop
-μ-loop file merits holders steps j area₀ at k₀ area k = 6 - k
+μ-loop file merits holders steps uses j area₀ at places k₀ area k = 6 - k
 
 loop-holds : tie.Need-loop-holds Inv-loop μ-loop
-loop-holds c = (omega arith, refl, refl)
+loop-holds c = (omega arith, search needs, refl, refl)
 
-add-closing-place : tie.Need-add-closing-place Inv-loop μ-loop
-add-closing-place c = search needs
-
-closing-place-requires : tie.Need-closing-place-requires Inv-loop μ-loop
-closing-place-requires c κs = search needs
+closing-places-requires : tie.Need-closing-places-requires Inv-loop μ-loop
+closing-places-requires c κs = search needs
 
 mul-write-word : tie.Need-mul-write-word Inv-loop μ-loop
 mul-write-word c = search needs
 
 add-write-word : tie.Need-add-write-word Inv-loop μ-loop
 add-write-word c = search needs
+
+mul-write-word-2 : tie.Need-mul-write-word-2 Inv-loop μ-loop
+mul-write-word-2 c = search needs
+
+array-read-write-word : tie.Need-array-read-write-word Inv-loop μ-loop
+array-read-write-word c = search needs
 
 write-word-requires : tie.Need-write-word-requires Inv-loop μ-loop
 write-word-requires c κs = search needs
@@ -44,7 +47,7 @@ loop-less : tie.Need-loop-less Inv-loop μ-loop
 loop-less c = search needs
 
 loop-again : tie.Need-loop-again Inv-loop μ-loop
-loop-again c = (omega arith, search needs, search (needs, closing-put))
+loop-again c = (omega arith, search needs, search needs, search (needs, closing-put))
 
 same-length : tie.Need-same-length Inv-loop μ-loop
 same-length c = search needs
@@ -58,11 +61,12 @@ write-institute-spec =
     (tie.spec
     Inv-loop
     μ-loop
+    closing-places-requires
     loop-holds
-    add-closing-place
-    closing-place-requires
     mul-write-word
     add-write-word
+    mul-write-word-2
+    array-read-write-word
     write-word-requires
     add-k
     loop-less

@@ -31,6 +31,9 @@ zeros-requires c κs = search needs
 zeros-requires-2 : tie.Need-zeros-requires-2
 zeros-requires-2 c κs = search needs
 
+zeros-requires-3 : tie.Need-zeros-requires-3
+zeros-requires-3 c κs = search needs
+
 array-borrow-prefix-holders : tie.Need-array-borrow-prefix-holders
 array-borrow-prefix-holders c = search (needs, places)
 
@@ -43,8 +46,14 @@ array-borrow-prefix-steps c = search (needs, places)
 slice-aggregate-seat-all-2 : tie.Need-slice-aggregate-seat-all-2
 slice-aggregate-seat-all-2 c = search (needs, places-many)
 
+array-borrow-prefix-uses : tie.Need-array-borrow-prefix-uses
+array-borrow-prefix-uses c = search (needs, places)
+
+slice-aggregate-seat-all-3 : tie.Need-slice-aggregate-seat-all-3
+slice-aggregate-seat-all-3 c = search (needs, places-many)
+
 seat-all-requires : tie.Need-seat-all-requires
-seat-all-requires c κs = (search needs, ((search places-many, search places-many), search (needs, answer-fits)))
+seat-all-requires c κs = (search needs, ((search places-many, search places-many, search places-many), search (needs, answer-fits)))
 
 mul-clear : tie.Need-mul-clear
 mul-clear c = search needs
@@ -73,10 +82,13 @@ allot-round-spec =
     returns-2
     zeros-requires
     zeros-requires-2
+    zeros-requires-3
     array-borrow-prefix-holders
     slice-aggregate-seat-all
     array-borrow-prefix-steps
     slice-aggregate-seat-all-2
+    array-borrow-prefix-uses
+    slice-aggregate-seat-all-3
     seat-all-requires
     mul-clear
     clear-requires

@@ -10,19 +10,22 @@ use Rattle.choice.proofs.fill.fill.Statement.{statement}
 use Rattle.choice.proofs.fill.fill.Tie as tie
 
 abbrev Inv-loop : tie.InvT-loop
-Inv-loop free number offers code placed steps₀ filled₀ p₀ p-end steps filled p = (p ≤ length steps₀) × (p-end ≡ length steps₀) × Filled number code free offers placed steps₀ steps filled p
+Inv-loop free number offers code placed steps₀ uses₀ filled₀ p₀ p-end steps uses filled p = (p ≤ length steps₀) × (p-end ≡ length steps₀) × Filled number code free offers placed steps₀ uses₀ steps uses filled p
 
 abbrev μ-loop : tie.MeasureT-loop
-μ-loop free number offers code placed steps₀ filled₀ p₀ p-end steps filled p = length steps₀ - p
+μ-loop free number offers code placed steps₀ uses₀ filled₀ p₀ p-end steps uses filled p = length steps₀ - p
 
 loop-holds : tie.Need-loop-holds Inv-loop μ-loop
-loop-holds c = (omega arith, refl, none-filled _ _ _ _ _ _)
+loop-holds c = (omega arith, refl, none-filled _ _ _ _ _ _ _)
 
 shared-slice-read-if1 : tie.Need-shared-slice-read-if1 Inv-loop μ-loop
 shared-slice-read-if1 c = search needs
 
 slice-write-steps : tie.Need-slice-write-steps Inv-loop μ-loop
 slice-write-steps c = search needs
+
+slice-write-uses : tie.Need-slice-write-uses Inv-loop μ-loop
+slice-write-uses c = omega arith
 
 considers-requires : tie.Need-considers-requires Inv-loop μ-loop
 considers-requires c κs = (search needs, omega arith, omega arith)
@@ -46,8 +49,11 @@ loop-again c =
 same-length : tie.Need-same-length Inv-loop μ-loop
 same-length c = search needs
 
+same-length-2 : tie.Need-same-length-2 Inv-loop μ-loop
+same-length-2 c = search needs
+
 returns : tie.Need-returns Inv-loop μ-loop
-returns c = all-filled _ _ _ _ _ _ (c .before .loop .inv .2) (omega arith)
+returns c = all-filled _ _ _ _ _ _ _ (omega arith) (c .before .loop .inv .2) (omega arith)
 
 pub fill-spec : {M : Type 1} → statement M
 fill-spec =
@@ -58,6 +64,7 @@ fill-spec =
     loop-holds
     shared-slice-read-if1
     slice-write-steps
+    slice-write-uses
     considers-requires
     slice-write-steps-2
     add-filled
@@ -65,4 +72,5 @@ fill-spec =
     loop-less
     loop-again
     same-length
+    same-length-2
     returns)

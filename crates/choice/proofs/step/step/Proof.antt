@@ -1,8 +1,13 @@
 -- `choice::step::step` meets its contract: filling starts from what taking for use leaves. Assumes nothing.
+use native.Mathlib.Omega.{arith}
 use Rattle.choice.proofs.Steps.{front-each, front-zero, room-back, types-back, each-back, step-done}
 use borrow.Author.Needs.{needs}
 use Rattle.choice.proofs.step.step.Statement.{statement}
 use Rattle.choice.proofs.step.step.Tie as tie
+
+-- where it is known how many positions the fill has
+abbrev freed : tie.After-fill → tie.After-left-of
+freed c = c .before .before .before .before
 
 zeros-requires : tie.Need-zeros-requires
 zeros-requires c κs = search needs
@@ -26,24 +31,27 @@ slice-aggregate-fill : tie.Need-slice-aggregate-fill
 slice-aggregate-fill c = search (needs, each-back)
 
 fill-requires : tie.Need-fill-requires
-fill-requires c κs = (search needs, cc, search each-back)
+fill-requires c κs = (search needs, cc, search each-back, omega arith)
 
 same-length : tie.Need-same-length
 same-length c = search needs
+
+same-length-2 : tie.Need-same-length-2
+same-length-2 c = search needs
 
 left-of-requires-2 : tie.Need-left-of-requires-2
 left-of-requires-2 c κs = search needs
 
 returns : tie.Need-returns
 returns c =
-    let start : tie.Start = search needs in
-    let made : tie.After-zeros = search needs in
-    let taken : tie.After-take-for-use = search needs in
-    let freed : tie.After-left-of = search needs in
     let filled : tie.After-fill = search needs in
+    let free = freed filled in
+    let taken : tie.After-take-for-use = free .before .before in
+    let made : tie.After-zeros = search needs in
+    let start : tie.Start = search needs in
     let places = start .pre .1 in
     step-done _ _ places (taken .take-for-use .ensures) (types-back (places .few) (made .zeros .ensures) _ (taken .take-for-use .kept .1 .1 .1 .1 .1 .0))
-    (freed .left-of .ensures) (filled .fill .ensures) (c .left-of2 .ensures)
+    (free .left-of .ensures) (filled .fill .ensures) (c .left-of2 .ensures)
 
 pub step-spec : {M : Type 1} → statement M
 step-spec =
@@ -59,4 +67,5 @@ step-spec =
     fill-requires
     left-of-requires-2
     same-length
+    same-length-2
     returns)

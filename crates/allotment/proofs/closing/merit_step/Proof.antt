@@ -1,0 +1,60 @@
+-- The step of a candidate whom an institute holds and did not take for use, by the arrays.
+-- Assumes nothing.
+use borrow.Author.Needs.{needs}
+use Prim.Native.Nat.{ℕ}
+use mathlib.Core.Path.{_≡_, sym, _∙_}
+use mathlib.Core.Logic.{_≢_}
+use mathlib.Core.List.{List}
+use lib.ListN.{getD}
+use borrow.Author.Tests.{eq-eqb, ne-eqb}
+use Rattle.allotment.specs.Writing.{meritStep}
+use Rattle.allotment.proofs.closing.merit_step.Statement.{statement}
+use Rattle.allotment.proofs.closing.merit_step.Tie as tie
+
+module _ (holders steps uses : List ℕ) (i institute : ℕ) {x : ℕ} (holder : x ≡ getD holders i 0) where
+  elsewhere : x ≢ institute → 0 ≡ meritStep holders steps uses institute i
+  elsewhere d = rw (ne-eqb (getD holders i 0) institute (λ e. d (holder ∙ e)))
+
+  module _ (here : x ≡ institute) where
+    for-use : getD uses i 0 ≢ 0 → 0 ≡ meritStep holders steps uses institute i
+    for-use d = rw (eq-eqb (getD holders i 0) institute (sym holder ∙ here), ne-eqb (getD uses i 0) 0 d)
+
+    by-merit : getD uses i 0 ≡ 0 → {y : ℕ} → y ≡ getD steps i 0 → y ≡ meritStep holders steps uses institute i
+    by-merit z e = rw (eq-eqb (getD holders i 0) institute (sym holder ∙ here), eq-eqb (getD uses i 0) 0 z) e
+
+shared-slice-read-wide : tie.Need-shared-slice-read-wide
+shared-slice-read-wide c = search needs
+
+wide-requires : tie.Need-wide-requires
+wide-requires c κs = search needs
+
+returns : tie.Need-returns
+returns c = search elsewhere
+
+shared-slice-read-if2 : tie.Need-shared-slice-read-if2
+shared-slice-read-if2 c = search needs
+
+returns-2 : tie.Need-returns-2
+returns-2 c = search for-use
+
+shared-slice-read-wide-2 : tie.Need-shared-slice-read-wide-2
+shared-slice-read-wide-2 c = search needs
+
+wide-requires-2 : tie.Need-wide-requires-2
+wide-requires-2 c κs = search needs
+
+returns-3 : tie.Need-returns-3
+returns-3 c = search by-merit
+
+pub merit-step-spec : {M : Type 1} → statement M
+merit-step-spec =
+    tie.close
+    (tie.spec
+    shared-slice-read-wide
+    wide-requires
+    returns
+    shared-slice-read-if2
+    returns-2
+    shared-slice-read-wide-2
+    wide-requires-2
+    returns-3)

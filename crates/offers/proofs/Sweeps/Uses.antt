@@ -1,0 +1,159 @@
+-- The notes of use: the offers that the seats stand for, and what is noted as one institute after the other chooses from its seats.
+use Prim.Native.Nat.{ℕ, suc, _+_, _-_, _^_, _<_}
+use mathlib.Core.Path.{_≡_, refl, sym, _∙_, ap}
+use mathlib.Core.Bool.{true, cond, not, _&&_}
+use mathlib.Core.Logic.{_≢_}
+use mathlib.Core.List.{List}
+use native.Mathlib.Omega.{arith}
+use native.Mathlib.Decide.{decLt}
+use lib.ListN.{length, getD, set, length-set}
+use lib.Seq.{getD-set-same, getD-set-other}
+use borrow.Author.Tests.{eq-eqb, ne-eqb, lt-ltb}
+use Rattle.round.specs.declared.entry.Category.{Category}
+use Rattle.round.specs.declared.head.Head.{Head as CodeHead}
+use Rattle.round.specs.Category.{codeOf, categoryOf}
+use Rattle.round.specs.Round.{Round}
+use Rattle.round.specs.Sound.{Sound}
+use Rattle.round.specs.Records.{headOf}
+use Rattle.round.specs.Reading.{roundOf}
+use Rattle.round.proofs.Sound.{length-institutes, step-category}
+use Rattle.choice.specs.Use.{holds}
+use Rattle.choice.specs.Account.{usedIn, StepAccount}
+use Rattle.choice.proofs.Counting.{sameOr, and-true}
+use Rattle.offers.specs.Rows.{sameCategory, categoryAt}
+use Rattle.offers.specs.Offers.{placeOn, usedFor}
+use Rattle.offers.specs.Process.{Seat, candidateCount, instituteCount, madeTo, tried, seats, accountAtEnd}
+use Rattle.offers.specs.Stable.{given}
+use Rattle.offers.specs.Standing.{isStep}
+use Rattle.offers.specs.Held.{AtHand, HeldIn}
+use Rattle.offers.specs.Sweeps.{offerTo, offersBy, takesPart}
+use Rattle.offers.specs.Uses.{SeatsWanted, UsesAnew, UsesNoted}
+use Rattle.offers.proofs.Rounds.Places.{meritLength}
+use Rattle.offers.proofs.Rounds.Agreed.{step-number, step-absent}
+use Rattle.offers.proofs.Rounds.Seats.{stepIn}
+use Rattle.offers.proofs.Rounds.Process.{tried-running}
+use Rattle.offers.proofs.Rounds.Bounds.{list-length}
+use Rattle.offers.proofs.Rounds.Standing.{is-step}
+use Rattle.offers.proofs.Rounds.Given.{seated-at}
+use Rattle.offers.proofs.Rounds.AccountRound.{account-seats}
+use Rattle.offers.proofs.Sweeps.Known.{candidates-many, institutes-many, round-sound}
+use Rattle.offers.proofs.Sweeps.Lasts.{holds-only, holds-none, only-some, no-part}
+
+-- the sets of the steps' categories, one candidate after the other
+pub none-wanted : (steps wanted : List ℕ) → length wanted ≡ length steps → SeatsWanted 0 steps wanted
+none-wanted steps wanted each = record { many = each; at = λ i l. absurd (omega arith) }
+
+module _ {steps wanted : List ℕ} {i : ℕ} (w : SeatsWanted i steps wanted) where
+  -- the next has no step
+  pub one-unseated : getD steps i 0 ≡ 0 → {wanted' : List ℕ} → wanted' ≡ wanted → SeatsWanted (i + 1) steps wanted'
+  one-unseated z e = rw e record {
+    many = w .many;
+    at = λ k l d. sameOr k i (λ s. absurd (d (ap (λ x. getD steps x 0) s ∙ z))) (λ n. w .at k (omega arith) d);
+  }
+
+  -- the next has one, and the set of its category is written
+  pub one-wanted : {c : Category} {x : ℕ} → i < length steps → c ≡ categoryOf (getD steps i 0 - 1) → x ≡ 2 ^ codeOf c → {wanted' : List ℕ} → wanted' ≡ set wanted i x
+      → SeatsWanted (i + 1) steps wanted'
+  one-wanted {c} {x} inside ec ex e = rw e record {
+    many = length-set wanted i x ∙ w .many;
+    at = λ k l d.
+        sameOr k i (λ s. rw (s, getD-set-same wanted i x 0 (omega (arith, w .many))) (ex ∙ ap (λ (c : Category). 2 ^ codeOf c) ec))
+        (λ n. getD-set-other wanted i k x 0 n ∙ w .at k (omega arith) d);
+  }
+
+  pub all-wanted : (n : ℕ) → i ≡ n → SeatsWanted n steps wanted
+  all-wanted n e = rw e at w
+
+pub wanted-same : {k : ℕ} {steps wanted wanted' : List ℕ} → wanted' ≡ wanted → SeatsWanted k steps wanted → SeatsWanted k steps wanted'
+wanted-same e w = rw e w
+
+-- the arrays that hold the list of the round, and the notes, have a place for each candidate
+module _ {file : List ℕ} {h : CodeHead} {candidates merits : List ℕ} (hand : AtHand file h candidates merits) where
+  pub holders-each : {holders steps : List ℕ} → HeldIn (seats (roundOf file)) holders steps → length holders ≡ h .candidates
+  holders-each list = list .holders-many ∙ list-length (roundOf file) ∙ candidates-many hand
+
+  pub steps-each : {holders steps : List ℕ} → HeldIn (seats (roundOf file)) holders steps → length steps ≡ h .candidates
+  steps-each list = list .steps-many ∙ list-length (roundOf file) ∙ candidates-many hand
+
+  pub wanted-each : {k : ℕ} {holders steps wanted : List ℕ} → HeldIn (seats (roundOf file)) holders steps → SeatsWanted k steps wanted → length wanted ≡ h .candidates
+  wanted-each list wants = wants .many ∙ steps-each list
+
+  pub uses-each : {k : ℕ} {holders uses : List ℕ} → UsesNoted (roundOf file) k holders uses → length uses ≡ h .candidates
+  uses-each noted = noted .many ∙ candidates-many hand
+
+  -- before any institute has chosen
+  pub none-noted : {holders uses : List ℕ} → length uses ≡ h .candidates → UsesNoted (roundOf file) 0 holders uses
+  none-noted many = record { many = many ∙ sym (candidates-many hand); noted = λ i j hi l. absurd (omega arith) }
+
+-- two arrays hold the list of the round, and a third the sets of its seats' categories
+module _ {file : List ℕ} {h : CodeHead} {candidates merits : List ℕ} (hand : AtHand file h candidates merits)
+    {holders steps : List ℕ} (list : HeldIn (seats (roundOf file)) holders steps) {wanted : List ℕ} (wants : SeatsWanted (length steps) steps wanted) where
+  abbrev r : Round
+  r = roundOf file
+
+  abbrev sound : Sound (headOf file .types) (roundOf file)
+  sound = round-sound hand
+
+  -- whoever is held by institute j has the step that it gives from all offers made to it, and a set with its category
+  module _ (i j : ℕ) (hi : i < candidateCount r) (hj : j < instituteCount r) (e : getD holders i 0 ≡ suc j) where
+    step-at : (getD steps i 0 ≡ stepIn r (tried r) j i) × (stepIn r (tried r) j i ≢ 0)
+    unfolding seats
+    step-at =
+        let seat = list .seat i (omega (arith, list-length r)) in
+        let at = seated-at sound (tried-running sound) i j hi hj (ap (λ (s : Seat). s .institute) seat ∙ e) in
+        (sym (ap (λ (s : Seat). s .step) seat) ∙ ap (λ (s : Seat). s .step) (at .1), at .0)
+
+    wanted-at : getD wanted i 0 ≡ 2 ^ codeOf (categoryAt r j (getD steps i 0))
+    wanted-at =
+        wants .at i (omega (arith, list .steps-many, list-length r)) (λ z. step-at .1 (sym (step-at .0) ∙ z))
+        ∙ ap (λ (c : Category). 2 ^ codeOf c) (sym (step-category file j (getD steps i 0 - 1) (omega (arith, length-institutes file))))
+
+    held-given : (c : Category) → holds (getD wanted i 0) (codeOf c) ≡ (isStep r (record { institute = suc j; step = getD steps i 0 }) && sameCategory (categoryAt r j (getD steps i 0)) c)
+    held-given c =
+        ap (λ x. holds x (codeOf c)) wanted-at
+        ∙ holds-only (categoryAt r j (getD steps i 0)) c
+        ∙ rw (is-step r j (getD steps i 0) hj (λ z. step-at .1 (sym (step-at .0) ∙ z)) (omega (arith, step-at .0, step-number r j (madeTo r (tried r) j) i)))
+
+    -- and takes part where institute j chooses from its seats
+    held-part : takesPart r j (offerTo (suc j) holders wanted) i ≡ true
+    unfolding takesPart offerTo
+    held-part =
+        elim (decLt (placeOn r j i) (meritLength r j)) [
+          | yes l ↦
+              and-true _ _ (lt-ltb _ _ l)
+              (rw (eq-eqb (getD holders i 0) (suc j) e, wanted-at) (ap not (ne-eqb _ 0 (only-some (categoryAt r j (getD steps i 0))))))
+          | no l ↦ absurd (step-at .1 (step-absent r j (madeTo r (tried r) j) i l))
+        ]
+
+  -- the offers by the tables are those that the seats stand for
+  offers-given : (i j : ℕ) (c : Category) → i < candidateCount r → j < instituteCount r → offersBy (offerTo (suc j) holders wanted) i c ≡ given r (seats r) j i c
+  unfolding offersBy offerTo given
+  offers-given i j c hi hj =
+      rw (list .seat i (omega (arith, list-length r)))
+      (sameOr (getD holders i 0) (suc j)
+      (λ e. rw (e, eq-eqb (suc j) (suc j) refl) (held-given i j hi hj e c))
+      (λ d. rw (ne-eqb (getD holders i 0) (suc j) d) (holds-none c)))
+
+  -- whom institute j takes for use from its seats it takes for use from all offers made to it
+  used-same : (i j : ℕ) → j < instituteCount r → usedFor r j (offersBy (offerTo (suc j) holders wanted)) i ≡ usedFor r j (madeTo r (tried r) j) i
+  unfolding usedFor accountAtEnd
+  used-same i j hj =
+      ap (λ (account : List StepAccount). cond (usedIn account (placeOn r j i)) 1 0)
+      (account-seats sound j hj (offersBy (offerTo (suc j) holders wanted)) (λ k hk c. offers-given k j c hk hj))
+
+  -- one institute more
+  pub one-noted : {k : ℕ} {uses uses' : List ℕ} → k < h .institutes → UsesNoted (roundOf file) k holders uses → UsesAnew (roundOf file) k holders wanted uses uses'
+      → UsesNoted (roundOf file) (k + 1) holders uses'
+  one-noted {k} {uses} {uses'} l u a = record {
+    many = a .many ∙ u .many;
+    noted = λ i j hi m e.
+        sameOr j k
+        (λ s.
+        let at : getD holders i 0 ≡ suc k = e ∙ ap suc s in
+        let hk : k < instituteCount r = omega (arith, institutes-many hand) in
+        rw s (a .at i hi ∙ rw (held-part i k hi hk at) (used-same i k hk)))
+        (λ d. a .at i hi ∙ rw (no-part r k holders wanted i (λ z. d (omega arith))) (u .noted i j hi (omega arith) e));
+  }
+
+pub all-noted : (n : ℕ) {r : Round} {k : ℕ} {holders uses : List ℕ} → k ≡ n → UsesNoted r k holders uses → UsesNoted r n holders uses
+all-noted n e u = rw e at u
