@@ -4,7 +4,7 @@ use crate::area::Area;
 use crate::difference::{area_text, hex, Difference};
 use crate::probe;
 use crate::tally::Came;
-use second::choice::{Document, Offer, Rule};
+use second::choice::{Document, Offer, Rule, Way};
 use second::random::Random;
 use second::reading::{Candidate, Institute, Round, OPEN};
 use second::writing;
@@ -31,6 +31,12 @@ pub struct Case {
     pub policy: usize,
     pub marks: Vec<u8>,
     pub offers: Vec<u8>,
+}
+
+/// What is due at each merit place: the step, 0 for none, and 1 where that step takes the candidate for use, else 0.
+pub struct Due {
+    pub steps: Vec<u8>,
+    pub uses: Vec<u8>,
 }
 
 impl Case {
@@ -72,8 +78,8 @@ impl Case {
         writing::institute(&self.institute).split_off(4)
     }
 
-    /// The step of each place by the second program, on a round with this one institute and its merit list in file order.
-    pub fn due(&self) -> Vec<u8> {
+    /// What the second program chooses, on a round with this one institute and its merit list in file order.
+    pub fn due(&self) -> Due {
         let candidates: Vec<Candidate> = self
             .marks
             .iter()
@@ -99,11 +105,15 @@ impl Case {
             })
             .filter(|offer| self.offers[offer.candidate] >> offer.category & 1 == 1)
             .collect();
-        let mut steps = vec![0; self.offers.len()];
+        let mut due = Due {
+            steps: vec![0; self.offers.len()],
+            uses: vec![0; self.offers.len()],
+        };
         for taken in Document.choose(&round, 0, &offers) {
-            steps[taken.offer.candidate] = taken.step;
+            due.steps[taken.offer.candidate] = taken.step;
+            due.uses[taken.offer.candidate] = u8::from(taken.way == Way::ForUse);
         }
-        steps
+        due
     }
 }
 
@@ -140,10 +150,11 @@ fn some_marks(random: &mut Random, types: usize, thin: usize, near: bool) -> u8 
     marks as u8
 }
 
-/// Lets each choose and compares the steps, and the bytes around them.
+/// Lets each choose and compares the steps and the uses, and the bytes around them.
 pub fn compare(random: &mut Random, case: &Case) -> (Came, Option<Difference>) {
     let mut steps = Area::new(random, case.offers.len());
-    let mut due = steps.clone();
+    let mut uses = Area::new(random, case.offers.len());
+    let (mut due_steps, mut due_uses) = (steps.clone(), uses.clone());
     let body = case.body();
     probe::choose(
         &body,
@@ -152,14 +163,22 @@ pub fn compare(random: &mut Random, case: &Case) -> (Came, Option<Difference>) {
         &case.marks,
         &case.offers,
         steps.lent(),
+        uses.lent(),
     );
-    due.lent().copy_from_slice(&case.due());
-    if steps == due {
+    let due = case.due();
+    due_steps.lent().copy_from_slice(&due.steps);
+    due_uses.lent().copy_from_slice(&due.uses);
+    if steps == due_steps && uses == due_uses {
         return (Came::Accepted, None);
     }
-    let text = |own: &Area, other: &Area| {
-        let place = area_text("steps", own, other);
-        format!("steps {}{place}", hex(own.seen()))
+    let text = |name: &str, own: &Area, other: &Area| {
+        let place = area_text(name, own, other);
+        format!("{name} {}{place}", hex(own.seen()))
+    };
+    let both = |steps: &Area, uses: &Area, others: (&Area, &Area)| {
+        let (of_steps, of_uses) = others;
+        let steps = text("steps", steps, of_steps);
+        format!("{steps}; {}", text("uses", uses, of_uses))
     };
     let difference = Difference {
         asked: format!(
@@ -169,8 +188,8 @@ pub fn compare(random: &mut Random, case: &Case) -> (Came, Option<Difference>) {
             case.offers.len()
         ),
         input: [body, case.marks.clone(), case.offers.clone()].concat(),
-        unit: text(&steps, &due),
-        second: text(&due, &steps),
+        unit: both(&steps, &uses, (&due_steps, &due_uses)),
+        second: both(&due_steps, &due_uses, (&steps, &uses)),
     };
     (Came::Accepted, Some(difference))
 }

@@ -91,6 +91,7 @@ pub fn text() -> String {
         let case = Case::made(&mut random, if number < 40 { 512 } else { 60 });
         let body = case.body();
         let mut steps = vec![0; case.offers.len()];
+        let mut uses = steps.clone();
         choose = choose.max(depth(&mut || {
             probe::choose(
                 &body,
@@ -99,6 +100,7 @@ pub fn text() -> String {
                 &case.marks,
                 &case.offers,
                 &mut steps,
+                &mut uses,
             );
         }));
     }

@@ -36,23 +36,8 @@ pub fn work_bytes(round: &Round) -> usize {
     8 * round.candidates.len()
 }
 
-/// For each institute, the largest merit place among those seated at each of the six steps, 0 if nobody.
-pub fn closing_places(round: &Round, allotment: &Allotment) -> Vec<[usize; 6]> {
-    let mut places = vec![[0; 6]; round.institutes.len()];
-    for (institute, merit) in round.merit.iter().enumerate() {
-        for (place, &candidate) in merit.iter().enumerate() {
-            if let Some(seat) = allotment.seats[candidate] {
-                if seat.institute == institute {
-                    places[institute][usize::from(seat.step) - 1] = place + 1;
-                }
-            }
-        }
-    }
-    places
-}
-
 /// The bytes written to the answer area.
-pub fn answer_of(round: &Round, allotment: &Allotment) -> Vec<u8> {
+pub fn answer_of(allotment: &Allotment) -> Vec<u8> {
     let mut bytes = Vec::new();
     for seat in &allotment.seats {
         match seat {
@@ -60,10 +45,8 @@ pub fn answer_of(round: &Round, allotment: &Allotment) -> Vec<u8> {
             None => bytes.extend([0, 0]),
         }
     }
-    for places in closing_places(round, allotment) {
-        for place in places {
-            bytes.extend((place as u16).to_le_bytes());
-        }
+    for place in allotment.closing.iter().flatten() {
+        bytes.extend((*place as u16).to_le_bytes());
     }
     bytes
 }
@@ -80,7 +63,7 @@ pub fn call(file: &[u8], answer_len: usize, work_len: usize) -> Outcome {
     let allotment = allot(&round, &Document);
     Outcome::Allotted {
         offers: allotment.offers,
-        answer: answer_of(&round, &allotment),
+        answer: answer_of(&allotment),
     }
 }
 

@@ -10,11 +10,21 @@ pub struct Offer {
     pub category: u8,
 }
 
-/// An offer that was taken, with its step.
+/// How a step takes somebody.
+#[derive(Clone, Copy, Debug, PartialEq, Eq, PartialOrd, Ord, Hash)]
+pub enum Way {
+    /// As somebody who raises the use of those taken.
+    ForUse,
+    /// In the fill of the remaining positions.
+    ByMerit,
+}
+
+/// An offer that was taken, with its step and how that step took it.
 #[derive(Clone, Copy, Debug, PartialEq, Eq, PartialOrd, Ord, Hash)]
 pub struct Taken {
     pub offer: Offer,
     pub step: u8,
+    pub way: Way,
 }
 
 /// What happens to candidates taken at an earlier step.
@@ -44,11 +54,9 @@ pub fn category_of(step: u8) -> u8 {
 
 /// The rule by which institutes choose; what is written here is the document's.
 pub trait Rule {
-    /// Those taken within one step, as places in the list of those considered.
-    fn within(&self, step: &Step) -> Vec<usize> {
-        let mut taken = raising(step);
-        fill_by_merit(step, &mut taken);
-        taken
+    /// Those taken for use within one step, as places in the list of those considered.
+    fn for_use(&self, step: &Step) -> Vec<usize> {
+        raising(step)
     }
 
     /// The positions of step 6, from those of step 4 and how many of these were taken.
@@ -64,6 +72,11 @@ pub trait Rule {
     /// What the completion of the choice takes from a set of offers.
     fn complete(&self, round: &Round, institute: usize, offers: &[Offer]) -> Vec<Taken> {
         steps(self, round, institute, offers, Earlier::OfferLeftOut)
+    }
+
+    /// The closing place of each step, from an institute's merit list and what it takes of all offers ever made to it.
+    fn closing(&self, merit: &[usize], taken: &[Taken]) -> [usize; 6] {
+        largest_by_merit(merit, taken)
     }
 }
 
@@ -90,13 +103,25 @@ pub fn raising(step: &Step) -> Vec<usize> {
     taken
 }
 
-/// Fills the remaining positions by merit with those left.
-pub fn fill_by_merit(step: &Step, taken: &mut Vec<usize>) {
-    for place in 0..step.considered.len() {
-        if taken.len() < step.positions && !taken.contains(&place) {
-            taken.push(place);
+/// Those left who fill by merit the positions that remain after those taken for use.
+pub fn filling(step: &Step, for_use: &[usize]) -> Vec<usize> {
+    (0..step.considered.len())
+        .filter(|place| !for_use.contains(place))
+        .take(step.positions.saturating_sub(for_use.len()))
+        .collect()
+}
+
+/// For each step, the largest merit place among those it took in its fill by merit, 0 if nobody.
+pub fn largest_by_merit(merit: &[usize], taken: &[Taken]) -> [usize; 6] {
+    let mut places = [0; 6];
+    for (place, &candidate) in merit.iter().enumerate() {
+        for one in taken {
+            if one.offer.candidate == candidate && one.way == Way::ByMerit {
+                places[usize::from(one.step) - 1] = place + 1;
+            }
         }
     }
+    places
 }
 
 /// Runs the steps of one institute over a set of offers, under a rule.
@@ -132,14 +157,17 @@ pub fn steps<R: Rule + ?Sized>(
             positions,
             reserved,
         };
-        for place in rule.within(&step) {
-            taken.push(Taken {
+        let for_use = rule.for_use(&step);
+        let by_merit = filling(&step, &for_use);
+        for (way, places) in [(Way::ForUse, for_use), (Way::ByMerit, by_merit)] {
+            taken.extend(places.into_iter().map(|place| Taken {
                 offer: Offer {
                     candidate: step.considered[place],
                     category,
                 },
                 step: number,
-            });
+                way,
+            }));
         }
     }
     taken.sort();

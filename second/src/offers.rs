@@ -10,11 +10,12 @@ pub struct Seat {
     pub step: u8,
 }
 
-/// What the offers end with: their number and each candidate's seat.
+/// What the offers end with: their number, each candidate's seat, and each institute's closing places.
 #[derive(Clone, Debug, PartialEq, Eq)]
 pub struct Allotment {
     pub offers: usize,
     pub seats: Vec<Option<Seat>>,
+    pub closing: Vec<[usize; 6]>,
 }
 
 /// The offers made so far to each institute, in the order made, what each took of them, and how many entries each candidate has tried.
@@ -64,7 +65,7 @@ impl<'a, R: Rule + ?Sized> Process<'a, R> {
         entry
     }
 
-    /// The number of offers made and the seats held.
+    /// The number of offers made, the seats held, and the closing places in what each institute took of all offers made to it.
     pub fn allotment(&self) -> Allotment {
         let mut seats = vec![None; self.tried.len()];
         for (institute, held) in self.held.iter().enumerate() {
@@ -75,9 +76,13 @@ impl<'a, R: Rule + ?Sized> Process<'a, R> {
                 });
             }
         }
+        let institutes = self.round.merit.iter().zip(&self.held);
         Allotment {
             offers: self.tried.iter().sum(),
             seats,
+            closing: institutes
+                .map(|(merit, held)| self.rule.closing(merit, held))
+                .collect(),
         }
     }
 }

@@ -1,6 +1,5 @@
 //! What the program prints for a round file.
 
-use crate::answer::closing_places;
 use crate::choice::Document;
 use crate::offers::allot;
 use crate::reading::read;
@@ -18,7 +17,7 @@ pub fn print(file: &[u8]) -> String {
         let (institute, step) = seat.map_or((0, 0), |seat| (seat.institute + 1, seat.step));
         let _ = writeln!(text, "{} {} {}", candidate + 1, institute, step);
     }
-    for (institute, places) in closing_places(&round, &allotment).iter().enumerate() {
+    for (institute, places) in allotment.closing.iter().enumerate() {
         let _ = write!(text, "closing {}", institute + 1);
         for place in places {
             let _ = write!(text, " {place}");

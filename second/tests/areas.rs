@@ -13,7 +13,7 @@ const TOO_SMALL: Outcome = Outcome::Refused {
 /// The answer bytes of round A.
 fn answer_of_a() -> Vec<u8> {
     let mut bytes = vec![0, 0, 1, 4, 1, 1];
-    bytes.extend([3, 0, 0, 0, 0, 0, 2, 0, 0, 0, 0, 0]);
+    bytes.extend([0, 0, 0, 0, 0, 0, 2, 0, 0, 0, 0, 0]);
     bytes
 }
 

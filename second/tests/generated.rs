@@ -1,11 +1,10 @@
 //! Generated files give what they are made for.
 
-use second::answer::closing_places;
 use second::choice::{Document, Rule};
 use second::generate::{
     boundary, damaged, lawful, lawful_round, two_faults, Class, Damaged, Expected,
 };
-use second::offers::{allot, Process};
+use second::offers::Process;
 use second::reading::{read, Refusal, Round, LONGEST};
 use second::writing::write;
 use second::{call, call_on, Outcome};
@@ -131,25 +130,6 @@ fn the_first_55373_bytes_decide() {
     let mut file = lawful(Class::Maximal, 1);
     file.extend(vec![4; 10_000]);
     assert_eq!(read(&file), read(&file[..LONGEST + 1]));
-}
-
-#[test]
-fn closing_places_agree_with_the_seats() {
-    for seed in 0..300 {
-        let round = lawful_round(Class::Small, seed);
-        let allotment = allot(&round, &Document);
-        let mut due = vec![[0; 6]; round.institutes.len()];
-        for (candidate, seat) in allotment.seats.iter().enumerate() {
-            let Some(seat) = seat else { continue };
-            let place = round.merit[seat.institute]
-                .iter()
-                .position(|&listed| listed == candidate)
-                .expect("who is seated is on the merit list");
-            let closing = &mut due[seat.institute][usize::from(seat.step) - 1];
-            *closing = (place + 1).max(*closing);
-        }
-        assert_eq!(closing_places(&round, &allotment), due);
-    }
 }
 
 #[test]

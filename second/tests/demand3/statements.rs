@@ -116,18 +116,22 @@ fn together(one: &[Offer], other: &[Offer]) -> Vec<Offer> {
     all
 }
 
-/// The seats an institute gave, as offers taken with their steps.
-fn given(seats: &[Option<Seat>], institute: usize) -> Vec<Taken> {
+/// The offers of those taken, each with its step.
+fn steps_of(taken: &[Taken]) -> Vec<(Offer, u8)> {
+    taken.iter().map(|one| (one.offer, one.step)).collect()
+}
+
+/// The seats an institute gave, as offers with their steps.
+fn given(seats: &[Option<Seat>], institute: usize) -> Vec<(Offer, u8)> {
     let mut given = Vec::new();
     for (candidate, seat) in seats.iter().enumerate() {
         if let Some(seat) = seat.filter(|seat| seat.institute == institute) {
-            given.push(Taken {
-                offer: Offer {
-                    candidate,
-                    category: category_of(seat.step),
-                },
-                step: seat.step,
-            });
+            let category = category_of(seat.step);
+            let offer = Offer {
+                candidate,
+                category,
+            };
+            given.push((offer, seat.step));
         }
     }
     given
@@ -155,8 +159,8 @@ pub fn stable<R: Rule + ?Sized>(round: &Round, rule: &R, seats: &[Option<Seat>])
     }
     for institute in 0..round.institutes.len() {
         let given = given(seats, institute);
-        let own = offers_of(&given);
-        if rule.choose(round, institute, &own) != given {
+        let own: Vec<Offer> = given.iter().map(|&(offer, _)| offer).collect();
+        if steps_of(&rule.choose(round, institute, &own)) != given {
             return Err(format!("other seats from just those given: {round:?}"));
         }
         let listed = listed_offers(round, institute);
@@ -202,7 +206,7 @@ fn run<R: Rule + ?Sized>(
     (made, process.allotment())
 }
 
-/// Statement 3: any order of going gives the same offers, seats and steps.
+/// Statement 3: any order of going gives the same offers, seats, steps and closing places.
 pub fn any_order<R: Rule + ?Sized>(round: &Round, rule: &R, random: &mut Random) -> Found {
     let due = run(round, rule, |ready| ready[0]);
     for _ in 0..8 {
@@ -213,7 +217,7 @@ pub fn any_order<R: Rule + ?Sized>(round: &Round, rule: &R, random: &mut Random)
     Ok(())
 }
 
-/// Statement 4: at every turn, what the institute chooses from the offers it holds and the new one is what it chooses from all ever made to it.
+/// Statement 4: at every turn, what the institute chooses from the offers it holds and the new one is what it chooses from all ever made to it, for use and by merit alike.
 pub fn held_and_new_suffice<R: Rule + ?Sized>(round: &Round, rule: &R) -> Found {
     let mut process = Process::new(round, rule);
     while let Some(&candidate) = process.ready().first() {
@@ -251,7 +255,7 @@ pub fn held_once<R: Rule + ?Sized>(round: &Round, rule: &R) -> Found {
     Ok(())
 }
 
-/// Statement 5 in the run of the offers: at every turn, the completion takes from all offers made the same offers at the same steps as the choice.
+/// Statement 5 in the run of the offers: at every turn, the completion takes from all offers made the same offers at the same steps and in the same way as the choice.
 pub fn completion_agrees_in_the_run<R: Rule + ?Sized>(round: &Round, rule: &R) -> Found {
     let mut process = Process::new(round, rule);
     while let Some(&candidate) = process.ready().first() {

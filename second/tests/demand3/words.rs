@@ -1,6 +1,6 @@
 //! The choice from the words of the document, with nothing shared: the use by trying every way of giving positions.
 
-use second::choice::{Offer, Rule, Taken};
+use second::choice::{Offer, Rule, Taken, Way};
 use second::reading::Round;
 
 /// The choice from its words.
@@ -45,18 +45,26 @@ impl Rule for Words {
                     step_takes = with;
                 }
             }
+            let users = step_takes.len();
             for &candidate in &by_merit {
                 if step_takes.len() < positions && !step_takes.contains(&candidate) {
                     step_takes.push(candidate);
                 }
             }
-            taken.extend(step_takes.iter().map(|&candidate| Taken {
-                offer: Offer {
-                    candidate,
-                    category: category as u8,
-                },
-                step,
-            }));
+            for (number, &candidate) in step_takes.iter().enumerate() {
+                taken.push(Taken {
+                    offer: Offer {
+                        candidate,
+                        category: category as u8,
+                    },
+                    step,
+                    way: if number < users {
+                        Way::ForUse
+                    } else {
+                        Way::ByMerit
+                    },
+                });
+            }
         }
         taken.sort();
         taken

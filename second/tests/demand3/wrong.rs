@@ -1,6 +1,6 @@
 //! Wrong rules: the wrong turns of the document, each as a rule of its own.
 
-use second::choice::{fill_by_merit, steps, Document, Earlier, Offer, Rule, Step, Taken};
+use second::choice::{steps, Document, Earlier, Offer, Rule, Step, Taken};
 use second::horizontal::use_of;
 use second::reading::{Round, OBC, OPEN};
 
@@ -8,7 +8,7 @@ use second::reading::{Round, OBC, OPEN};
 pub struct NeverMoved;
 
 impl Rule for NeverMoved {
-    fn within(&self, step: &Step) -> Vec<usize> {
+    fn for_use(&self, step: &Step) -> Vec<usize> {
         let mut room = step.reserved.to_vec();
         let mut taken = Vec::new();
         for place in 0..step.considered.len() {
@@ -19,7 +19,6 @@ impl Rule for NeverMoved {
                 taken.push(place);
             }
         }
-        fill_by_merit(step, &mut taken);
         taken
     }
 }
@@ -135,7 +134,7 @@ impl Rule for ConsideredByCode {
 pub struct MarkedFirst;
 
 impl Rule for MarkedFirst {
-    fn within(&self, step: &Step) -> Vec<usize> {
+    fn for_use(&self, step: &Step) -> Vec<usize> {
         let mut taken: Vec<usize> = (0..step.considered.len())
             .filter(|&place| step.marks[place] != 0)
             .take(step.positions.min(1))
@@ -150,7 +149,6 @@ impl Rule for MarkedFirst {
                 taken.push(place);
             }
         }
-        fill_by_merit(step, &mut taken);
         taken
     }
 }
@@ -159,12 +157,10 @@ impl Rule for MarkedFirst {
 pub struct AllMarkedFirst;
 
 impl Rule for AllMarkedFirst {
-    fn within(&self, step: &Step) -> Vec<usize> {
-        let mut taken: Vec<usize> = (0..step.considered.len())
+    fn for_use(&self, step: &Step) -> Vec<usize> {
+        (0..step.considered.len())
             .filter(|&place| step.marks[place] != 0)
             .take(step.positions)
-            .collect();
-        fill_by_merit(step, &mut taken);
-        taken
+            .collect()
     }
 }
