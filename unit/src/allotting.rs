@@ -3,7 +3,8 @@
 use crate::answer::Answer;
 use crate::boundary::tazbilk_allot;
 
-/// Allots the seats of a round file; what both areas hold afterwards is fixed by document 01 for every file.
+/// Allots the seats of a round file; what both areas hold afterwards is fixed for every file by document 01, and by request 1
+/// of document 02 for the closing places.
 pub fn allot(file: &[u8], answer: &mut [u8], work: &mut [u8]) -> Answer {
     let mut result = [0; 3];
     // SAFETY: the unit reads the file and writes the areas and the result within the lengths given, keeps none of them, and asks for nothing else.

@@ -1,4 +1,5 @@
-//! The seat-allotment unit, called from Rust: a round file goes in, seats, offers and closing places come out.
+//! The seat-allotment unit, called from Rust: a round file goes in, seats, offers and closing places come out. The closing
+//! place of a step is the largest merit place among those whom it seated in its fill by merit, 0 if nobody.
 //!
 //! ```
 //! let file = std::fs::read("../rounds/a.round")?;

@@ -17,7 +17,7 @@ fn file_a_is_allotted_and_what_lies_beyond_stays() {
         Answer::Allotted { offers: 4 }
     );
     let seats = [0, 0, 1, 4, 1, 1];
-    let closing = [3, 0, 0, 0, 0, 0, 2, 0, 0, 0, 0, 0];
+    let closing = [0, 0, 0, 0, 0, 0, 2, 0, 0, 0, 0, 0];
     assert_eq!(answer[..6], seats);
     assert_eq!(answer[6..18], closing);
     assert_eq!(answer[18..], [9; 2]);
