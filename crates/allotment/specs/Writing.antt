@@ -1,5 +1,5 @@
 -- What the functions that write the answer area speak of: the seats that two arrays hold, and who came in by merit.
-use Prim.Native.Nat.{ℕ, _-_}
+use Prim.Native.Nat.{ℕ, _-_, max}
 use mathlib.Core.Path.{_≡_}
 use mathlib.Core.Bool.{cond}
 use mathlib.Core.List.{List}
@@ -12,7 +12,7 @@ use Rattle.round.specs.Reading.{roundOf}
 use Rattle.round.specs.Read.{asHead}
 use Rattle.round.specs.Refusal.{verdict, passes}
 use Rattle.round.specs.Outcome.{MeritStarts}
-use Rattle.offers.specs.Process.{Seat, noSeat, seats}
+use Rattle.offers.specs.Process.{Seat, noSeat, instituteCount, seats}
 use Rattle.offers.specs.Held.{HeldIn}
 use Rattle.offers.specs.Uses.{UsesNoted}
 use Rattle.allotment.specs.Areas.{seatBytes}
@@ -36,16 +36,16 @@ abbrev pub meritStep : List ℕ → List ℕ → List ℕ → ℕ → ℕ → �
 meritStep holders steps uses institute i =
     cond (eqb (getD holders i 0) institute) (cond (eqb (getD uses i 0) 0) (getD steps i 0) 0) 0
 
--- the places with this one for the step with a number from 1, and as they were for 0
+-- the places with the larger of this one and the one that stands for the step with a number from 1; as they were for 0
 abbrev pub withPlace : ℕ → ℕ → List ℕ → List ℕ
-withPlace step place places = cond (eqb step 0) places (set places (step - 1) place)
+withPlace step place places = cond (eqb step 0) places (set places (step - 1) (max (getD places (step - 1) 0) place))
 
 -- an accepted file with its table of merit lists, two arrays that hold the list of its round, and one that notes who is seated for use
 pub record ClosingKnown (file merits holders steps uses : List ℕ) : Type 0 where
   pub accepted : verdict file ≡ passes
   pub table : MeritStarts file merits
   pub list : HeldIn (seats (roundOf file)) holders steps
-  pub noted : UsesNoted (roundOf file) (headOf file .institutes) holders uses
+  pub noted : UsesNoted (roundOf file) (instituteCount (roundOf file)) holders uses
 
 -- the same with the head
 pub record AnswerKnown (file : List ℕ) (h : CodeHead) (merits holders steps uses : List ℕ) : Type 0 where

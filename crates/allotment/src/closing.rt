@@ -3,7 +3,7 @@ use round::access::merit_length;
 use round::access::merit_place;
 use round::word::wide;
 ghost use mathlib.Core.Path.{_≡_};
-ghost use Prim.Native.Nat.{_≤_, _<_};
+ghost use Prim.Native.Nat.{max, _≤_, _<_};
 ghost use lib.ListN.{length, replicate};
 ghost use Rattle.round.specs.Records.{headOf};
 ghost use Rattle.round.specs.Reading.{roundOf};
@@ -31,17 +31,24 @@ fn no_places() -> [usize; 6]
     [0usize; 6]
 }
 
-// The place is the last so far of a step, from 1.
+// The larger of two places.
+fn larger(a: usize, b: usize) -> usize
+    ensures { λ r. ⌜ r ≡ max a b ⌝ }
+{
+    if a < b { b } else { a }
+}
+
+// Keeps the larger of a place and the one that stands for a step, from 1; for 0 there is nothing to keep.
 fn keep_place(places: &mut [usize], step: usize, place: usize)
     requires { ⌜ step ≤ length (now places) ⌝ }
     ensures { λ _. ⌜ now (places .exit) ≡ withPlace step place (now (places .entry)) ⌝ }
 {
     if step != 0 {
-        places[step - 1] = place;
+        places[step - 1] = larger(places[step - 1], place);
     }
 }
 
-// The closing places of institute j, from 0: going down its merit list, the last place that came in by merit at each step.
+// The closing places of institute j, from 0.
 pub fn closing_places(
     file: &[u8],
     merits: &[usize],

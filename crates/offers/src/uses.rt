@@ -11,7 +11,7 @@ ghost use mathlib.Core.Path.{_≡_};
 ghost use Prim.Native.Nat.{_<_};
 ghost use lib.ListN.{length};
 ghost use Rattle.round.specs.Reading.{roundOf};
-ghost use Rattle.offers.specs.Process.{seats};
+ghost use Rattle.offers.specs.Process.{instituteCount, seats};
 ghost use Rattle.offers.specs.Held.{AtHand, HeldIn};
 ghost use Rattle.offers.specs.Uses.{SeatsWanted, UsesAnew, UsesNoted};
 
@@ -76,7 +76,7 @@ pub fn note_uses(
     requires { ⌜ AtHand (now file) h (now candidates) (now merits) ⌝ }
     requires { ⌜ HeldIn (seats (roundOf (now file))) (now holders) (now steps) ⌝ }
     requires { ⌜ length (now uses) ≡ h .candidates ⌝ }
-    ensures { λ _. ⌜ UsesNoted (roundOf (now (file .entry))) (h .institutes) (now (holders .entry)) (now (uses .exit)) ⌝ }
+    ensures { λ _. ⌜ UsesNoted (roundOf (now (file .entry))) (instituteCount (roundOf (now (file .entry)))) (now (holders .entry)) (now (uses .exit)) ⌝ }
 {
     let n = h.candidates;
     let mut wanted = zeros();

@@ -15,8 +15,7 @@ use Rattle.round.proofs.Joined.{sets-append, sets-front}
 use Rattle.round.proofs.Sound.{length-institutes}
 use Rattle.offers.specs.Process.{Seat, noSeat, candidateCount, instituteCount, seats}
 use Rattle.allotment.specs.Areas.{closingBytes, answerBytes, answerSize}
-use Rattle.offers.specs.Held.{AtHand, HeldIn}
-use Rattle.offers.specs.Uses.{UsesNoted}
+use Rattle.offers.specs.Held.{HeldIn}
 use Rattle.allotment.specs.Writing.{seatHeld, seatsHeld, heldBytes, AnswerKnown}
 use Rattle.offers.proofs.Rounds.Bounds.{list-length}
 use Rattle.allotment.proofs.Files.Pieces.{length-pieces}
@@ -35,19 +34,6 @@ held-one list holders steps held =
 length-held : (holders steps : List ℕ) → length (heldBytes holders steps) ≡ 2 * length holders
 unfolding heldBytes
 length-held holders steps = length-pieces 2 (heldPieces holders steps) (λ i. refl) (length holders)
-
--- the offers have ended, and each institute has chosen once more
-pub answer-known : {file : List ℕ} {h : CodeHead} {candidates merits holders steps uses : List ℕ} → AtHand file h candidates merits
-    → HeldIn (seats (roundOf file)) holders steps → UsesNoted (roundOf file) (h .institutes) holders uses → AnswerKnown file h merits holders steps uses
-answer-known {file} hand list noted = record {
-  head = hand .head;
-  closing = record {
-    accepted = hand .passing;
-    table = hand .merit-starts;
-    list = list;
-    noted = rw (ap (λ (h : Head). h .institutes) (hand .head)) at noted;
-  };
-}
 
 -- what the answer area is written from
 module _ {file : List ℕ} {h : CodeHead} {merits holders steps uses : List ℕ} (known : AnswerKnown file h merits holders steps uses) where

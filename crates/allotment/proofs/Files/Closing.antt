@@ -1,4 +1,4 @@
--- The closing places as they are found by going down the merit list: of each step the last place so far that it seated by merit.
+-- The closing places as they are found by going down the merit list: of each step the largest place so far that it seated by merit.
 use Prim.Native.Nat.{ℕ, suc, _+_, _-_, _<_, _≤_, max}
 use mathlib.Core.Path.{_≡_, refl, sym, ap, _∙_}
 use mathlib.Core.Bool.{Bool, true, false, cond, not, _&&_, and-true, and-false}
@@ -97,15 +97,15 @@ module _ (r : Round) (j : ℕ) where
 
       some : (step ≡ 0 → ⊥) → ClosedTo r j (suc p) (withPlace step (suc p) places)
       some d = rw (ne-eqb step 0 d) record {
-        six = length-set places (step - 1) (suc p) ∙ c .six;
+        six = length-set places (step - 1) _ ∙ c .six;
         at = λ k l.
             sameOr step (suc k)
             (λ s.
             let at : step - 1 ≡ k = omega arith in
-            rw (at, getD-set-same places k (suc p) 0 (omega (arith, c .six)), took k ∙ eq-eqb step (suc k) s)
-            (omega (arith, largest-few (stepAtEnd r j k) p)))
+            rw (at, getD-set-same places k (max (getD places k 0) (suc p)) 0 (omega (arith, c .six)), took k ∙ eq-eqb step (suc k) s)
+            (omega (arith, c .at k l)))
             (λ n.
-            rw (getD-set-other places (step - 1) k (suc p) 0 (λ s. n (omega arith)), took k ∙ ne-eqb step (suc k) n)
+            rw (getD-set-other places (step - 1) k (max (getD places (step - 1) 0) (suc p)) 0 (λ s. n (omega arith)), took k ∙ ne-eqb step (suc k) n)
             (c .at k l ∙ omega arith));
       }
 
@@ -182,7 +182,7 @@ module _ {file merits holders steps uses : List ℕ} {j : ℕ} (known : ClosingK
         ∙ merit-seated lawful j inside c k there (omega (arith, place-there))
         ∙ rw seated-there
         (sameOr (getD holders c 0) (suc j)
-        (λ e. rw (e, eq-eqb (suc j) (suc j) refl, known .noted .noted c j there below e) (by-use (usedIn (accountAtEnd r j) (placeOn r j c)) (getD steps c 0) (suc k) (λ z. omega arith)))
+        (λ e. rw (e, eq-eqb (suc j) (suc j) refl, known .noted .noted c j there inside e) (by-use (usedIn (accountAtEnd r j) (placeOn r j c)) (getD steps c 0) (suc k) (λ z. omega arith)))
         (λ d. rw (ne-eqb (getD holders c 0) (suc j) d, ne-eqb 0 (suc k) (λ z. omega arith))))
 
     few-there : meritStep holders steps uses (suc j) (number - 1) ≤ 6

@@ -9,7 +9,7 @@ use Rattle.choice.proofs.Steps.{room-back, types-back}
 use Rattle.offers.specs.Process.{seats}
 use Rattle.offers.specs.Held.{AtHand, HeldIn}
 use Rattle.offers.specs.Uses.{SeatsWanted, UsesNoted}
-use Rattle.offers.proofs.Sweeps.Known.{candidates-few, places, places-many}
+use Rattle.offers.proofs.Sweeps.Known.{institutes-many, candidates-few, places, places-many}
 use Rattle.offers.proofs.Sweeps.Uses.{wanted-same, holders-each, steps-each, wanted-each, uses-each, none-noted, one-noted, all-noted}
 use Rattle.offers.proofs.uses.note_uses.Statement.{statement}
 use Rattle.offers.proofs.uses.note_uses.Tie as tie
@@ -72,7 +72,9 @@ same-length c =
     uses-each (start .pre .0) (c .before .loop .inv .7) ∙ sym (start .pre .1 .1)
 
 returns : tie.Need-returns Inv-loop μ-loop
-returns c = all-noted _ (omega arith) (c .before .loop .inv .7)
+returns c =
+    let inv = c .before .loop .inv in
+    all-noted _ (omega (arith, institutes-many (inv .4))) (inv .7)
 
 pub note-uses-spec : {M : Type 1} → statement M
 note-uses-spec =
