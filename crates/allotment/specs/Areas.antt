@@ -16,7 +16,7 @@ abbrev pub seatBytes : Seat → List ℕ
 seatBytes s = s .institute ∷ s .step ∷ []
 
 -- the closing places of institute j, step by step from the first: by the account of its choice from all offers ever made to it, when the
--- process has ended
+-- process has ended; 0 for a step that it has not
 unfoldable pub closingPlaces : Round → ℕ → List ℕ
 closingPlaces r j = let steps : List StepAccount = accountAtEnd r j in tabulate 6 (λ k. closingPlace (accountOf steps (suc k)))
 

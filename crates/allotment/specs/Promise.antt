@@ -1,5 +1,5 @@
--- The promise of the public call: demands 1, 2 and 3 of the letter, for every input. That no call reads outside the file, goes wrong or
--- fails to finish is part of what it is for a function to be proved.
+-- The promise of the public call: demands 1, 2 and 3 of the letter, for every input, with the closing places of document 02, Point 1. That
+-- no call reads outside the file, goes wrong or fails to finish is part of what it is for a function to be proved.
 use mathlib.Core.Path.{_≡_}
 use Prim.Native.Nat.{ℕ}
 use mathlib.Core.List.{List}

@@ -13,10 +13,10 @@ use Rattle.choice.specs.Choice.{Progress, considers, positionsAt, vacant
 pub record StepAccount : Type 0 where
   -- its positions, handed ones included
   pub positions : ℕ
-  -- of each place, whether the step took it for raising the use, and whether in its fill by merit
+  -- of each place, from 0, whether the step took it for raising the use, and whether in its fill by merit
   pub forUse : List Bool
   pub byMerit : List Bool
-  -- the positions that it left vacant
+  -- the positions that it left vacant, handed on or not
   pub vacant : ℕ
 
 abbrev pub tookForUse : StepAccount → ℕ → Bool

@@ -1,4 +1,5 @@
--- The notes of use when the process has ended: each institute chooses once more, from its seats.
+-- The notes of use when the process has ended: each institute chooses once more, from its seats. By law it takes for use whom it takes for
+-- use from all offers ever made to it.
 use Prim.Native.Nat.{ℕ, suc, _-_, _^_, _<_}
 use mathlib.Core.Path.{_≡_}
 use mathlib.Core.Logic.{_≢_}

@@ -6,7 +6,7 @@ use mathlib.Core.List.{List}
 use native.Mathlib.Omega.{arith}
 use native.Mathlib.Numerals.{add-one}
 use lib.Dec.{eqb}
-use lib.ListN.{length, getD, set, replicate, length-set}
+use lib.ListN.{length, getD, replicate, length-set}
 use lib.Seq.{getD-set-same, getD-set-other, ext-getD}
 use mir.Syntax.{w64}
 use mir.Val.{Fits}
@@ -18,16 +18,16 @@ use Rattle.round.specs.Round.{Institute, Round}
 use Rattle.round.specs.Places.{instituteAt, meritAt}
 use Rattle.round.specs.Access.{MeritKnown}
 use Rattle.round.specs.Sound.{Sound, SoundInstitute}
-use Rattle.round.proofs.Sound.{sound, length-candidates, length-institutes}
+use Rattle.round.proofs.Sound.{sound, length-institutes}
 use Rattle.round.proofs.Words.{length-tabulate, tabulate-at}
 use Rattle.choice.specs.Account.{StepAccount, tookByMerit, accountOf, closingPlace, usedIn}
-use Rattle.choice.proofs.Counting.{test, sameOr}
+use Rattle.choice.proofs.Counting.{sameOr}
 use Rattle.choice.proofs.Tabulate.{getD-zeros}
 use Rattle.choice.proofs.Accounts.{merit-long, meritPlace, largest-few, closing-largest}
-use Rattle.offers.specs.Offers.{candidateOn, marksOn, atPlaces, placeOn, accountOn, usedFor}
-use Rattle.offers.specs.Process.{Seat, noSeat, candidateCount, instituteCount, madeTo, tried, seats, accountAtEnd}
+use Rattle.offers.specs.Offers.{marksOn, atPlaces, placeOn, accountOn, usedFor}
+use Rattle.offers.specs.Process.{noSeat, candidateCount, instituteCount, madeTo, tried, seats, accountAtEnd}
 use Rattle.offers.specs.Stable.{stepOf}
-use Rattle.offers.proofs.Rounds.Places.{candidate-below, place-of}
+use Rattle.offers.proofs.Rounds.Places.{place-of}
 use Rattle.offers.proofs.Rounds.Bounds.{merit-short, list-length}
 use Rattle.offers.proofs.Rounds.Agreed.{merit-marks, step-number}
 use Rattle.offers.proofs.Rounds.Process.{tried-running}
@@ -82,10 +82,10 @@ module _ (r : Round) (j : ℕ) where
       c .at k inside ∙ rw all (sym (closing-at r j k inside)))
 
   -- one place more, whose candidate the step with a number seated by merit, or none did
-  one-closed : {p step : ℕ} {places : List ℕ} → step ≤ 6 → ((k : ℕ) → tookByMerit (stepAtEnd r j k) p ≡ eqb step (suc k)) → ClosedTo r j p places
+  one-closed : (step : ℕ) {p : ℕ} {places : List ℕ} → ((k : ℕ) → tookByMerit (stepAtEnd r j k) p ≡ eqb step (suc k)) → ClosedTo r j p places
       → ClosedTo r j (p + 1) (withPlace step (p + 1) places)
   unfolding greatest
-  one-closed {p} {step} {places} few took c = rw add-one (sameOr step 0 none some)
+  one-closed step {p} {places} took c = rw add-one (sameOr step 0 none some)
     where
       none : step ≡ 0 → ClosedTo r j (suc p) (withPlace step (suc p) places)
       none z = rw z record {
@@ -207,4 +207,4 @@ module _ {file merits holders steps uses : List ℕ} {j : ℕ} (known : ClosingK
 
       -- the place is kept
       pub place-closed : {places places' : List ℕ} → ClosedTo (roundOf file) j p places → places' ≡ withPlace step (p + 1) places → ClosedTo (roundOf file) j (p + 1) places'
-      place-closed c e = rw (e, told-there) (one-closed r j few-there took-there c)
+      place-closed c e = rw (e, told-there) (one-closed r j _ took-there c)

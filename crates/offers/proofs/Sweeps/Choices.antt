@@ -11,7 +11,7 @@ use Rattle.round.specs.Round.{Round}
 use Rattle.choice.proofs.Counting.{sameOr}
 use Rattle.offers.specs.Offers.{stepFor}
 use Rattle.offers.specs.Process.{candidateCount}
-use Rattle.offers.specs.Sweeps.{offerTo, offersBy, takesPart, PutFor, ChosenAnew, ChosenAll}
+use Rattle.offers.specs.Sweeps.{offerTo, offersBy, takesPart, ChosenAnew, ChosenAll}
 use Rattle.offers.proofs.Sweeps.Lasts.{no-part}
 
 -- the marks of the institutes still to come are those from before

@@ -6,7 +6,7 @@ use mathlib.Core.List.{List, [], _∷_, map}
 use native.Mathlib.Omega.{arith}
 use native.Mathlib.Nat.{zero-div}
 use lib.Dec.{eqb, ltb}
-use lib.ListN.{length, getD, take, replicate, length-map}
+use lib.ListN.{length, getD, take, length-map}
 use lib.Seq.{length-take-le, getD-take}
 use borrow.Author.Tests.{ltb-true, lt-ltb, eqb-true, not-false}
 use Rattle.round.specs.declared.entry.Category.{Category}
