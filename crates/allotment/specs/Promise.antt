@@ -1,5 +1,6 @@
--- The promise of the public call: demands 1, 2 and 3 of the letter, for every input, with the closing places of document 02, Point 1. That
--- no call reads outside the file, goes wrong or fails to finish is part of what it is for a function to be proved.
+-- The promise of the public call: demands 1, 2 and 3 of the letter, for every input, with the closing places of document 02, Point 1, and
+-- that any order of offers ends alike, its Point 2. That no call reads outside the file, goes wrong or fails to finish is part of what it is
+-- for a function to be proved.
 use mathlib.Core.Path.{_≡_}
 use Prim.Native.Nat.{ℕ}
 use mathlib.Core.List.{List}
@@ -11,6 +12,7 @@ use Rattle.allotment.specs.Areas.{seatsIn}
 use Rattle.allotment.specs.Outcome.{outcomeOf, outcome, answerAfter, workAfter, Accepted}
 use Rattle.allotment.specs.Truthful.{Truthful}
 use Rattle.offers.specs.Ended.{AtEnd}
+use Rattle.offers.specs.Orders.{AnyOrder}
 use Rattle.offers.specs.Stable.{Stable}
 
 -- of a call on a file with both lent areas: its answer, and what stands in the areas afterwards
@@ -21,3 +23,4 @@ pub record Promise (file answer work : List ℕ) (result : Answer) (answerNow wo
   pub truthful : Accepted file answer work → Truthful file answerNow
   pub stable : Accepted file answer work → Stable (roundOf file) (seatsIn (candidateCount (roundOf file)) answerNow)
   pub process : Accepted file answer work → AtEnd (roundOf file)
+  pub anyOrder : Accepted file answer work → AnyOrder (roundOf file)

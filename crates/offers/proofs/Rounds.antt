@@ -17,6 +17,7 @@ pub mod StableRound
 pub mod AccountRound
 pub mod TruthfulRound
 pub mod Bounds
+pub mod Orders
 pub mod AnyOrder
 pub mod Last
 pub mod Sweeps

@@ -12,12 +12,15 @@ use Rattle.offers.specs.Process.{candidateCount, instituteCount, madeTo,
 abbrev pub Ended : Round → List ℕ → Type 0
 Ended r state = (i : ℕ) → i < candidateCount r → mayOffer r state (seatsAfter r state) i ≡ false
 
+-- no two institutes hold one candidate
+abbrev pub OneHolder : Round → List ℕ → Type 0
+OneHolder r state =
+    (i j k : ℕ) → i < candidateCount r → j < instituteCount r → k < instituteCount r →
+    stepFor r j (madeTo r state j) i ≢ 0 → stepFor r k (madeTo r state k) i ≢ 0 → j ≡ k
+
 pub record AtEnd (r : Round) : Type 0 where
   -- the number of offers is at most the number of entries
   pub bounded : offersMade r ≤ entryTotal r
   -- after the process nobody may offer
   pub ended : Ended r (tried r)
-  -- no two institutes hold one candidate
-  pub one-holder :
-      (i j k : ℕ) → i < candidateCount r → j < instituteCount r → k < instituteCount r →
-      stepFor r j (madeTo r (tried r) j) i ≢ 0 → stepFor r k (madeTo r (tried r) k) i ≢ 0 → j ≡ k
+  pub one-holder : OneHolder r (tried r)

@@ -2,6 +2,7 @@ pub mod Rows
 pub mod Offers
 pub mod Process
 pub mod Ended
+pub mod Orders
 pub mod Standing
 pub mod Stable
 pub mod Held

@@ -22,6 +22,10 @@ noSeat = record { institute = 0; step = 0 }
 abbrev pub isNone : Seat → Bool
 isNone s = eqb (s .institute) 0 && eqb (s .step) 0
 
+-- the state after candidate i has offered the best untried entry
+abbrev pub offered : List ℕ → ℕ → List ℕ
+offered state i = set state i (suc (getD state i 0))
+
 module _ (r : Round) where
   abbrev pub candidateCount : ℕ
   candidateCount = length (r .candidates)
@@ -56,11 +60,15 @@ module _ (r : Round) where
   turn state =
       let list = seatsAfter state in
       let i : ℕ = first candidateCount (mayOffer state list) in
-      cond (ltb i candidateCount) (set state i (suc (getD state i 0))) state
+      cond (ltb i candidateCount) (offered state i) state
 
   unfoldable pub turns : ℕ → List ℕ → List ℕ
   turns zero state = state
   turns (suc n) state = turns n (turn state)
+
+  -- the state before the first offer
+  abbrev pub untried : List ℕ
+  untried = replicate candidateCount 0
 
   abbrev pub entryTotal : ℕ
   entryTotal = sum (map (λ c. length (c .row)) (r .candidates))
@@ -68,7 +76,7 @@ module _ (r : Round) where
   -- the state in which the process ends: a turn tries one more entry while anyone may offer, and then none, so as many turns as there are
   -- entries reach the end
   unfoldable pub tried : List ℕ
-  tried = turns entryTotal (replicate candidateCount 0)
+  tried = turns entryTotal untried
 
   -- the number of offers of the process
   unfoldable pub offersMade : ℕ

@@ -1,4 +1,5 @@
--- The whole promise of a call from its answer and both areas: every sound round is stable and truthful, and its process ends.
+-- The whole promise of a call from its answer and both areas: every sound round is stable and truthful, its process ends, and any order of
+-- offers ends alike.
 use Prim.Native.Nat.{ℕ, _<_}
 use mathlib.Core.Path.{_≡_}
 use mathlib.Core.List.{List}
@@ -13,6 +14,7 @@ use Rattle.offers.specs.Stable.{Stable}
 use Rattle.offers.proofs.Rounds.StableRound.{round-stable}
 use Rattle.offers.proofs.Rounds.TruthfulRound.{round-truthful}
 use Rattle.offers.proofs.Rounds.AtEnd.{at-end}
+use Rattle.offers.proofs.Rounds.AnyOrder.{any-order-ends}
 use Rattle.allotment.specs.declared.Answer.{Answer}
 use Rattle.allotment.specs.Areas.{seatsIn}
 use Rattle.allotment.specs.Outcome.{outcomeOf, outcome, answerAfter, workAfter, Accepted}
@@ -50,4 +52,5 @@ promised file answer work result answerNow workNow told seen cleared = record {
   truthful = λ accepted. rw seen (truthful file answer work accepted);
   stable = λ accepted. rw seen (stable file answer work accepted);
   process = λ accepted. at-end (accepted-sound file answer work accepted);
+  anyOrder = λ accepted. any-order-ends (accepted-sound file answer work accepted);
 }

@@ -10,7 +10,7 @@ use Rattle.round.specs.Sound.{Sound}
 use Rattle.choice.proofs.Counting.{clash}
 use Rattle.offers.specs.Rows.{categoryAt}
 use Rattle.offers.specs.Process.{candidateCount, instituteCount, seatsAfter, mayOffer}
-use Rattle.offers.specs.Ended.{Ended, AtEnd}
+use Rattle.offers.specs.Ended.{Ended, OneHolder, AtEnd}
 use Rattle.offers.proofs.Market.Reached.{Served}
 use Rattle.offers.proofs.Rounds.Numbered.{numberOf, rowsOf, number-same}
 use Rattle.offers.proofs.Rounds.Institutes.{choiceOf}
@@ -32,9 +32,7 @@ module _ {types : ℕ} {r : Round} (sound : Sound types r) {state : List ℕ} (r
       go true e = absurd (served-out (closed .served i hi) (may-offer sound run i hi e))
       go false e = refl
 
-  -- no two institutes hold one candidate
-  one-institute : (i j k : ℕ) → i < candidateCount r → j < instituteCount r → k < instituteCount r
-      → stepIn r state j i ≢ 0 → stepIn r state k i ≢ 0 → j ≡ k
+  pub one-institute : OneHolder r state
   one-institute i j k hi hj hk d e =
       let c = categoryAt r j (stepIn r state j i) in
       let b = categoryAt r k (stepIn r state k i) in

@@ -6,7 +6,7 @@ use mathlib.Core.List.{List}
 use Prim.Native.Nat.{ℕ, zero, suc, _+_, _≤_, _<_}
 use native.Mathlib.Omega.{arith}
 use native.Mathlib.Decide.{decLt}
-use lib.ListN.{length, getD, set, replicate, length-set, length-replicate}
+use lib.ListN.{length, getD, length-set, length-replicate}
 use borrow.Author.Tests.{ltb-true, ltb-false, lt-ltb, le-ltb, ne-eqb}
 use Rattle.round.specs.Lists.{first, sumOf}
 use Rattle.round.specs.Round.{Round}
@@ -15,7 +15,7 @@ use Rattle.round.proofs.Words.{and-fst, and-snd, and-no}
 use Rattle.choice.proofs.Counting.{clash, sumOf-le}
 use Rattle.choice.proofs.Tabulate.{getD-zeros}
 use Rattle.offers.specs.Rows.{rowAt}
-use Rattle.offers.specs.Process.{noSeat, isNone, candidateCount, seatsAfter, mayOffer, turn, turns, entryTotal, tried, offersMade}
+use Rattle.offers.specs.Process.{noSeat, isNone, offered, candidateCount, seatsAfter, mayOffer, turn, turns, untried, entryTotal, tried, offersMade}
 use Rattle.offers.proofs.Market.Laws.{Unheld}
 use Rattle.offers.proofs.Market.Reached.{start, step, Served, Closed, Final, set-turned, turned-sum, reached-fits}
 use Rattle.offers.proofs.Market.AnyOrder as AnyOrder
@@ -27,7 +27,7 @@ use Rattle.offers.proofs.Rounds.Counted.{entries, state-sum, state-most
 use Rattle.offers.proofs.Rounds.Seats.{Seated, Unseated, seat-of}
 
 module _ (r : Round) where
-  pub start-running : Running r (replicate (candidateCount r) 0)
+  pub start-running : Running r (untried r)
   start-running = record {
     each = length-replicate (candidateCount r) 0;
     reached = start (getD-zeros (candidateCount r));
@@ -39,18 +39,14 @@ pub record MayTurn (r : Round) (state : List ℕ) (i : ℕ) : Type 0 where
   pub none : Unheld (choiceOf r) (made r state) i
   pub more : stateOf state i < rowsOf r i .len
 
--- the state with one more entry of i tried
-abbrev pub advanced : List ℕ → ℕ → List ℕ
-advanced state i = set state i (suc (getD state i 0))
-
-pub turn-running : {r : Round} {state : List ℕ} {i : ℕ} → Running r state → MayTurn r state i → Running r (advanced state i)
+pub turn-running : {r : Round} {state : List ℕ} {i : ℕ} → Running r state → MayTurn r state i → Running r (offered state i)
 turn-running {r} {state} {i} run may = record {
   each = length-set state i (suc (getD state i 0)) ∙ run .each;
   reached = step i (run .reached) (may .inside) (may .none) (may .more) (set-turned state i (suc (getD state i 0)) (omega (arith, run .each)) refl);
 }
 
 pub turn-sum : {r : Round} {state : List ℕ} {i : ℕ} → Running r state → MayTurn r state i
-    → sumOf (candidateCount r) (stateOf (advanced state i)) ≡ suc (sumOf (candidateCount r) (stateOf state))
+    → sumOf (candidateCount r) (stateOf (offered state i)) ≡ suc (sumOf (candidateCount r) (stateOf state))
 turn-sum {r} {state} {i} run may =
     turned-sum (candidateCount r) (may .inside) (set-turned state i (suc (getD state i 0)) (omega (arith, run .each)) refl)
 
@@ -62,7 +58,7 @@ FinalIn r state = Final (candidateCount r) (choiceOf r) (rowsOf r) (stateOf stat
 
 -- somebody has a turn and takes it, or the state is closed and stays
 abbrev pub Next : Round → List ℕ → Type 0
-Next r state = ((i : ℕ) × MayTurn r state i × (turn r state ≡ advanced state i)) ⊎ (ClosedIn r state × (turn r state ≡ state))
+Next r state = ((i : ℕ) × MayTurn r state i × (turn r state ≡ offered state i)) ⊎ (ClosedIn r state × (turn r state ≡ state))
 
 seated-some : {r : Round} {state : List ℕ} {i : ℕ} → Seated r state i → isNone (getD (seatsAfter r state) i noSeat) ≡ false
 seated-some s = ap isNone (s .seat) ∙ rw (ne-eqb (suc (s .institute)) 0 (λ z. omega arith))
@@ -106,14 +102,14 @@ module _ {types : ℕ} {r : Round} (sound : Sound types r) where
   turn-or-closed : {state : List ℕ} → Running r state → Next r state
   unfolding turn
   turn-or-closed {state} run = elim (decLt i (candidateCount r)) [
-    | yes l ↦ inl (i, may-offer run i l (first-passes (candidateCount r) may l), ap (λ b. cond b (advanced state i) state) (lt-ltb i (candidateCount r) l))
+    | yes l ↦ inl (i, may-offer run i l (first-passes (candidateCount r) may l), ap (λ b. cond b (offered state i) state) (lt-ltb i (candidateCount r) l))
     | no l ↦
         inr (
           record {
             fits = reached-fits (run .reached);
             served = λ p m. not-offer run p m (first-before (candidateCount r) may p (omega arith));
           },
-          ap (λ b. cond b (advanced state i) state) (le-ltb i (candidateCount r) (omega arith)),
+          ap (λ b. cond b (offered state i) state) (le-ltb i (candidateCount r) (omega arith)),
         )
   ]
     where
@@ -141,7 +137,7 @@ module _ {types : ℕ} {r : Round} (sound : Sound types r) where
   turns-final zero {state} run few = go (turn-or-closed run)
     where
       go : Next r state → FinalIn r state
-      go (inl (i, may, e)) = absurd (omega (arith, turn-sum run may, sumOf-le (candidateCount r) (stateOf (advanced state i)) (λ i. rowsOf r i .len) (λ p l. reached-fits (turn-running run may .reached) p)))
+      go (inl (i, may, e)) = absurd (omega (arith, turn-sum run may, sumOf-le (candidateCount r) (stateOf (offered state i)) (λ i. rowsOf r i .len) (λ p l. reached-fits (turn-running run may .reached) p)))
       go (inr (c, e)) = record { reached = run .reached; closed = c }
   turns-final (suc k) {state} run few = go (turn-or-closed run) (λ next. turns-final k {state = next})
     where
@@ -151,7 +147,7 @@ module _ {types : ℕ} {r : Round} (sound : Sound types r) where
           → FinalIn r (turns r k (turn r state))
       go (inl (i, may, e)) ih =
           subst⁻¹ (λ next. FinalIn r (turns r k next)) e
-          (ih (advanced state i) (turn-running run may) (omega (arith, turn-sum run may)))
+          (ih (offered state i) (turn-running run may) (omega (arith, turn-sum run may)))
       go (inr (c, e)) ih =
           subst⁻¹ (FinalIn r) (ap (turns r k) e ∙ turns-still r k state e)
           record { reached = run .reached; closed = c }
