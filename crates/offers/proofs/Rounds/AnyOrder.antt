@@ -2,7 +2,7 @@
 use mathlib.Core.Path.{_≡_, sym, _∙_, ap}
 use mathlib.Core.Bool.{Bool, true}
 use mathlib.Core.List.{List, [], _∷_, _++_}
-use Prim.Native.Nat.{ℕ, _≤_, _<_}
+use Prim.Native.Nat.{ℕ}
 use native.Mathlib.Omega.{arith}
 use native.Mathlib.Decide.{decLt}
 use lib.ListN.{length, getD}
@@ -12,7 +12,7 @@ use Rattle.round.specs.Round.{Round}
 use Rattle.round.specs.Sound.{Sound}
 use Rattle.choice.proofs.Counting.{sumOf-zero}
 use Rattle.choice.proofs.Tabulate.{getD-zeros}
-use Rattle.offers.specs.Process.{candidateCount, seatsAfter, mayOffer, untried, entryTotal, tried, offersMade, seats}
+use Rattle.offers.specs.Process.{candidateCount, seatsAfter, mayOffer, untried, tried, offersMade, seats}
 use Rattle.offers.specs.Ended.{Ended}
 use Rattle.offers.specs.Orders.{mayGo, Order, triedIn, SameEnd, OrderHolds, AnyOrder}
 use Rattle.offers.proofs.Market.Rows.{State}

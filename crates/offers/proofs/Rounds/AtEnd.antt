@@ -1,15 +1,15 @@
 -- The process of a sound round at its end: at most as many offers as entries, nobody who may offer, and nobody held twice.
 use mathlib.Core.Path.{_≡_, refl}
 use mathlib.Core.Bool.{Bool, true, false}
-use mathlib.Core.Logic.{_≢_, inl, inr}
+use mathlib.Core.Logic.{inl, inr}
 use mathlib.Core.List.{List}
-use Prim.Native.Nat.{ℕ, _<_}
+use Prim.Native.Nat.{ℕ}
 use native.Mathlib.Omega.{arith}
 use Rattle.round.specs.Round.{Round}
 use Rattle.round.specs.Sound.{Sound}
 use Rattle.choice.proofs.Counting.{clash}
 use Rattle.offers.specs.Rows.{categoryAt}
-use Rattle.offers.specs.Process.{candidateCount, instituteCount, seatsAfter, mayOffer}
+use Rattle.offers.specs.Process.{seatsAfter, mayOffer}
 use Rattle.offers.specs.Ended.{Ended, OneHolder, AtEnd}
 use Rattle.offers.proofs.Market.Reached.{Served}
 use Rattle.offers.proofs.Rounds.Numbered.{numberOf, rowsOf, number-same}

@@ -1,7 +1,7 @@
 -- Orders of offers lead from state to state as turns do: the turns of the process are one, an order can be prolonged by whoever may offer, and
 -- of a sound round each offer of an order is one turn of the market.
-use mathlib.Core.Path.{_≡_, refl, sym, _∙_, ap}
-use mathlib.Core.Bool.{Bool, true, cond}
+use mathlib.Core.Path.{_≡_, refl}
+use mathlib.Core.Bool.{Bool, true}
 use mathlib.Core.List.{List, [], _∷_, _++_}
 use Prim.Native.Nat.{ℕ, zero, suc, _+_, _<_}
 use native.Mathlib.Omega.{arith}
