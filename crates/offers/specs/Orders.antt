@@ -1,11 +1,13 @@
 -- Orders of offers (document 02, Point 2): any candidate held by no institute who has an untried entry may go next.
--- An order is the list of those who go, each as a number from 0, the first to go first; whoever goes makes one offer.
-use Prim.Native.Nat.{ℕ, _≤_}
+-- An order is the list of those who go, as numbers from 0, the first to go first; whoever goes makes one offer, of the best untried entry, and
+-- may go again later.
+use Prim.Native.Nat.{ℕ, zero, suc, _≤_}
 use mathlib.Core.Path.{_≡_}
-use mathlib.Core.Bool.{Bool, true, _&&_}
+use mathlib.Core.Bool.{Bool, true, cond, _&&_}
 use mathlib.Core.List.{List, [], _∷_, _++_}
 use lib.Dec.{ltb}
 use lib.ListN.{length}
+use Rattle.round.specs.Lists.{first}
 use Rattle.round.specs.Round.{Round}
 use Rattle.offers.specs.Process.{candidateCount, seatsAfter, mayOffer, offered, untried, entryTotal, tried, offersMade, seats}
 use Rattle.offers.specs.Ended.{Ended, OneHolder}
@@ -15,17 +17,17 @@ module _ (r : Round) where
   unfoldable pub mayGo : List ℕ → ℕ → Bool
   mayGo state i = ltb i (candidateCount r) && mayOffer r state (seatsAfter r state) i
 
-  -- from a state on, each of the list may go when the turn comes
+  -- each of the list may go in the state that those before leave, the first in this state
   unfoldable pub allMayGo : List ℕ → List ℕ → Bool
   allMayGo state [] = true
   allMayGo state (i ∷ order) = mayGo state i && allMayGo (offered state i) order
 
-  -- from a state on, the state after each of the list has offered the best untried entry
+  -- the state after those of the list have offered, one after the other, from this state on
   unfoldable pub stateFrom : List ℕ → List ℕ → List ℕ
   stateFrom state [] = state
   stateFrom state (i ∷ order) = stateFrom (offered state i) order
 
-  -- the list is an order of offers, from the first offer on
+  -- the list is an order of offers: each may go when the turn comes, and before the first no entry is tried
   abbrev pub Order : List ℕ → Type 0
   Order order = allMayGo (untried r) order ≡ true
 
@@ -33,9 +35,21 @@ module _ (r : Round) where
   abbrev pub triedIn : List ℕ → List ℕ
   triedIn order = stateFrom (untried r) order
 
--- an order has come to the end of the process, in which the lowest-numbered candidate who may goes next
+  -- from a state on, the lowest-numbered candidate who may offer goes next, until nobody may or so many have gone
+  unfoldable pub lowestFrom : ℕ → List ℕ → List ℕ
+  lowestFrom zero state = []
+  lowestFrom (suc n) state =
+      let list = seatsAfter r state in
+      let i : ℕ = first (candidateCount r) (mayOffer r state list) in
+      cond (ltb i (candidateCount r)) (i ∷ lowestFrom n (offered state i)) []
+
+  -- the lowest-number order
+  unfoldable pub lowestFirst : List ℕ
+  lowestFirst = lowestFrom (entryTotal r) (untried r)
+
+-- an order has made the offers of the process and has its seats
 pub record SameEnd (r : Round) (order : List ℕ) : Type 0 where
-  -- of each row the same entries are tried
+  -- of each row as many entries are tried, best first, and so the same ones
   pub same-offers : triedIn r order ≡ tried r
   pub same-number : length order ≡ offersMade r
   -- each candidate has the same seat, institute and step, or none
@@ -47,13 +61,13 @@ pub record OrderHolds (r : Round) (order : List ℕ) : Type 0 where
   pub bounded : length order ≤ entryTotal r
   -- no two institutes hold one candidate after it
   pub one-holder : OneHolder r (triedIn r order)
-  -- where it has not ended, somebody can go next
+  -- where it has not ended somebody can go next
   pub goes-on : (Ended r (triedIn r order) → ⊥) → (i : ℕ) × Order r (order ++ (i ∷ []))
-  -- where it has ended, it ends as the process does
+  -- where it has ended it has made the offers of the process, and has its seats
   pub ends-alike : Ended r (triedIn r order) → SameEnd r order
 
 -- any order of offers ends, and ends alike
 pub record AnyOrder (r : Round) : Type 0 where
-  -- the process is such an order
-  pub lowest-first : (order : List ℕ) × Order r order × (triedIn r order ≡ tried r)
+  -- the process is the lowest-number order
+  pub lowest-first : Order r (lowestFirst r) × (triedIn r (lowestFirst r) ≡ tried r)
   pub each : (order : List ℕ) → Order r order → OrderHolds r order

@@ -22,7 +22,7 @@ noSeat = record { institute = 0; step = 0 }
 abbrev pub isNone : Seat → Bool
 isNone s = eqb (s .institute) 0 && eqb (s .step) 0
 
--- the state after candidate i has offered the best untried entry
+-- the state after candidate i has offered the best untried entry: one more of the row is tried
 abbrev pub offered : List ℕ → ℕ → List ℕ
 offered state i = set state i (suc (getD state i 0))
 
@@ -33,7 +33,8 @@ module _ (r : Round) where
   abbrev pub instituteCount : ℕ
   instituteCount = length (r .institutes)
 
-  -- the offers made to institute j: the tried entries; an entry not in the row has the row's length for its rank and is never tried
+  -- the offers made to institute j: the tried entries; an entry not in the row has the row's length for its rank, and no
+  -- order of offers tries more of a row
   unfoldable pub madeTo : List ℕ → ℕ → OfferSet
   madeTo state j i c = ltb (rankIn (rowAt r i) (entryOf j c)) (getD state i 0)
 
@@ -41,7 +42,7 @@ module _ (r : Round) where
   unfoldable pub chosen : List ℕ → List (List ℕ)
   chosen state = tabulate instituteCount (λ j. stepsOn r j (madeTo state j))
 
-  -- the seat of candidate i by these: the institute that holds i, and the step; no two institutes ever hold one candidate
+  -- the seat of candidate i by these: the first institute that holds i, and the step; after an order of offers no other does
   unfoldable pub seatBy : List (List ℕ) → ℕ → Seat
   seatBy steps i =
       let stepBy : ℕ → ℕ = λ j. getD (getD steps j []) (placeOn r j i) 0 in
@@ -66,7 +67,7 @@ module _ (r : Round) where
   turns zero state = state
   turns (suc n) state = turns n (turn state)
 
-  -- the state before the first offer
+  -- the state before the first offer: no entry is tried
   abbrev pub untried : List ℕ
   untried = replicate candidateCount 0
 

@@ -25,7 +25,7 @@ use Rattle.offers.proofs.Rounds.Running.{stateOf, Running}
 use Rattle.offers.proofs.Rounds.Counted.{state-sum, state-most}
 use Rattle.offers.proofs.Rounds.Process.{start-running, not-offer, tried-running, tried-final}
 use Rattle.offers.proofs.Rounds.AtEnd.{one-institute}
-use Rattle.offers.proofs.Rounds.Orders.{may-go, one-more, tried-order, order-running, order-sum}
+use Rattle.offers.proofs.Rounds.Orders.{may-go, one-more, lowest-tried, order-running, order-sum}
 
 -- where the offers have not ended somebody may go next
 not-ended : (r : Round) (state : List ℕ) → (Ended r state → ⊥) → (i : ℕ) × (mayGo r state i ≡ true)
@@ -92,4 +92,4 @@ module _ {types : ℕ} {r : Round} (sound : Sound types r) where
     }
 
   pub any-order-ends : AnyOrder r
-  any-order-ends = record { lowest-first = tried-order r; each = order-holds }
+  any-order-ends = record { lowest-first = lowest-tried r; each = order-holds }

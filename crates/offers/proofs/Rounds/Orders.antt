@@ -1,6 +1,6 @@
--- Orders of offers lead from state to state as turns do: the turns of the process are one, an order can be prolonged by whoever may offer, and
--- of a sound round each offer of an order is one turn of the market.
-use mathlib.Core.Path.{_≡_, refl}
+-- Orders of offers lead from state to state as turns do: the turns of the process are the lowest-number order, an order is prolonged by
+-- whoever may go, and of a sound round each offer of an order is one turn of the market.
+use mathlib.Core.Path.{_≡_, refl, sym}
 use mathlib.Core.Bool.{Bool, true}
 use mathlib.Core.List.{List, [], _∷_, _++_}
 use Prim.Native.Nat.{ℕ, zero, suc, _+_, _<_}
@@ -14,10 +14,10 @@ use Rattle.round.specs.Round.{Round}
 use Rattle.round.specs.Sound.{Sound}
 use Rattle.round.proofs.Words.{and-fst, and-snd}
 use Rattle.offers.specs.Process.{offered, candidateCount, seatsAfter, mayOffer, turn, turns, untried, entryTotal, tried}
-use Rattle.offers.specs.Orders.{mayGo, allMayGo, stateFrom, Order, triedIn}
+use Rattle.offers.specs.Orders.{mayGo, allMayGo, stateFrom, Order, triedIn, lowestFrom, lowestFirst}
 use Rattle.offers.proofs.Rounds.First.{first-passes}
 use Rattle.offers.proofs.Rounds.Running.{stateOf, Running}
-use Rattle.offers.proofs.Rounds.Process.{MayTurn, turn-running, turn-sum, may-offer}
+use Rattle.offers.proofs.Rounds.Process.{MayTurn, turns-still, turn-running, turn-sum, may-offer}
 
 module _ (r : Round) where
   pub may-go : (state : List ℕ) (i : ℕ) → i < candidateCount r → mayOffer r state (seatsAfter r state) i ≡ true → mayGo r state i ≡ true
@@ -45,18 +45,17 @@ module _ (r : Round) where
   one-more state (k ∷ order) i e next =
       and-then state (order ++ (i ∷ [])) k (first-goes state order k e) (one-more (offered state k) order i (rest-go state order k e) next)
 
-  -- an order leads from one state to another
-  abbrev Leads : List ℕ → List ℕ → Type 0
-  Leads state end = (order : List ℕ) × (allMayGo r state order ≡ true) × (stateFrom r state order ≡ end)
-
-  -- where an order leads on from the state after a turn, one leads there from the state before it
-  turn-leads : (state end : List ℕ) → Leads (turn r state) end → Leads state end
-  unfolding turn stateFrom
-  turn-leads state end = elim (decLt i (candidateCount r)) [
+  -- the lowest number first is an order and leads where turns lead
+  lowest-goes : (k : ℕ) (state : List ℕ) → (allMayGo r state (lowestFrom r k state) ≡ true) × (stateFrom r state (lowestFrom r k state) ≡ turns r k state)
+  unfolding lowestFrom turns turn allMayGo stateFrom
+  lowest-goes zero state = (refl, refl)
+  lowest-goes (suc k) state = elim (decLt i (candidateCount r)) [
     | yes l ↦
-        rw (lt-ltb i (candidateCount r) l)
-        (λ (order, rest, there). (i ∷ order, and-then state order i (may-go state i l (first-passes (candidateCount r) may l)) rest, there))
-    | no l ↦ rw (le-ltb i (candidateCount r) (omega arith)) (λ leads. leads)
+        let (rest, there) = lowest-goes k (offered state i) in
+        rw (lt-ltb i (candidateCount r) l) (and-then state (lowestFrom r k (offered state i)) i (may-go state i l (first-passes (candidateCount r) may l)) rest, there)
+    | no l ↦
+        let nobody = le-ltb i (candidateCount r) (omega arith) in
+        rw nobody (refl, sym (turns-still r k state (rw nobody refl)))
   ]
     where
       may : ℕ → Bool
@@ -65,15 +64,10 @@ module _ (r : Round) where
       i : ℕ
       i = first (candidateCount r) may
 
-  turns-lead : (k : ℕ) (state : List ℕ) → Leads state (turns r k state)
-  unfolding turns allMayGo stateFrom
-  turns-lead zero state = ([], refl, refl)
-  turns-lead (suc k) state = turn-leads state (turns r k (turn r state)) (turns-lead k (turn r state))
-
-  -- the process is an order
-  pub tried-order : (order : List ℕ) × Order r order × (triedIn r order ≡ tried r)
-  unfolding tried
-  tried-order = turns-lead (entryTotal r) (untried r)
+  -- the process is the lowest-number order
+  pub lowest-tried : Order r (lowestFirst r) × (triedIn r (lowestFirst r) ≡ tried r)
+  unfolding lowestFirst tried
+  lowest-tried = lowest-goes (entryTotal r) (untried r)
 
 module _ {types : ℕ} {r : Round} (sound : Sound types r) where
   go-turn : {state : List ℕ} {i : ℕ} → Running r state → mayGo r state i ≡ true → MayTurn r state i
