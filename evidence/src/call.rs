@@ -3,7 +3,8 @@
 use crate::area::Area;
 use crate::difference::{area_text, Difference};
 use crate::tally::Came;
-use second::answer::{answer_bytes, call_on, work_bytes, Outcome};
+use second::answer::{answer_bytes, call_in_order_on, call_on, work_bytes, Outcome};
+use second::orders::Order;
 use second::random::Random;
 use second::reading::{read, LONGEST};
 use tazbilk::{Answer, Refusal, ANSWER_MOST, WORK_MOST};
@@ -60,13 +61,38 @@ fn came(answer: &Answer) -> Came {
 
 /// Makes one call of each on like areas and compares the answers, all bytes of both areas, their guards, and the file.
 pub fn compare(random: &mut Random, file: &[u8], lengths: Lengths) -> (Came, Option<Difference>) {
+    compare_with(random, file, lengths, "", call_on)
+}
+
+/// The same, the second program calling candidates up in an order.
+pub fn compare_in_order(
+    random: &mut Random,
+    file: &[u8],
+    lengths: Lengths,
+    order: Order,
+) -> (Came, Option<Difference>) {
+    let seed = random.bits();
+    let called = format!("; the second program goes {}, seed {seed}", order.name());
+    compare_with(random, file, lengths, &called, |file, answer, work| {
+        call_in_order_on(order, seed, file, answer, work)
+    })
+}
+
+/// Makes one call of the unit and this one of the second program.
+fn compare_with(
+    random: &mut Random,
+    file: &[u8],
+    lengths: Lengths,
+    called: &str,
+    call: impl FnOnce(&[u8], &mut [u8], &mut [u8]) -> Outcome,
+) -> (Came, Option<Difference>) {
     let mut answer = Area::new(random, lengths.answer);
     let mut work = Area::new(random, lengths.work);
     let (mut due_answer, mut due_work) = (answer.clone(), work.clone());
     let given = file.to_vec();
 
     let said = tazbilk::allot(&given, answer.lent(), work.lent());
-    let due = answer_of(&call_on(file, due_answer.lent(), due_work.lent()));
+    let due = answer_of(&call(file, due_answer.lent(), due_work.lent()));
 
     let kept = given == file;
     let came = came(&due);
@@ -84,7 +110,7 @@ pub fn compare(random: &mut Random, file: &[u8], lengths: Lengths) -> (Came, Opt
     }
     let difference = Difference {
         asked: format!(
-            "allot, answer area {}, work area {}",
+            "allot, answer area {}, work area {}{called}",
             lengths.answer, lengths.work
         ),
         input: file.to_vec(),

@@ -8,6 +8,7 @@ use crate::tally::Tally;
 use crate::verdict;
 use second::generate::boundary;
 use second::generate::Class;
+use second::orders::Order;
 use second::random::Random;
 use std::path::Path;
 
@@ -41,7 +42,12 @@ impl Run {
 
     /// So many files of a class.
     fn made(&self, made: Made, count: usize) -> impl Iterator<Item = Vec<u8>> {
-        let mut random = self.random(&made.name());
+        self.made_for(&made.name(), made, count)
+    }
+
+    /// So many files of a class, others for each name.
+    fn made_for(&self, name: &str, made: Made, count: usize) -> impl Iterator<Item = Vec<u8>> {
+        let mut random = self.random(name);
         // The worst rounds with the first seeds are fixed ones.
         let fixed = matches!(made, Made::Worst(_));
         (0..count as u64).map(move |number| {
@@ -70,6 +76,33 @@ impl Run {
     /// Made files of a class.
     pub fn class(&self, made: Made, count: usize) -> Tally {
         self.calls(&made.name(), count, self.made(made, count))
+    }
+
+    /// Allotment calls on these files, the second program calling candidates up in each of the other orders in turn.
+    fn called(&self, name: &str, count: usize, files: impl Iterator<Item = Vec<u8>>) -> Tally {
+        let mut random = self.random(name);
+        let mut tally = Tally::new(name, count, self.long);
+        for (file, order) in files.zip(Order::OTHERS.into_iter().cycle()) {
+            let lengths = some_lengths(&mut random, &file);
+            let (came, difference) = call::compare_in_order(&mut random, &file, lengths, order);
+            tally.count(came, difference);
+        }
+        tally
+    }
+
+    /// The worked rounds, each in every other order.
+    pub fn rounds_in_order(&self, folder: &Path) -> Tally {
+        let orders = Order::OTHERS.len();
+        let files: Vec<Vec<u8>> = worked(folder)
+            .into_iter()
+            .flat_map(|file| vec![file; orders])
+            .collect();
+        self.called("orders, rounds", files.len(), files.into_iter())
+    }
+
+    /// Made files of a class, other ones than those of the class itself, in the other orders.
+    pub fn class_in_order(&self, name: &str, made: Made, count: usize) -> Tally {
+        self.called(name, count, self.made_for(name, made, count))
     }
 
     /// Every other value at every byte of file A.

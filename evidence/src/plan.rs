@@ -26,6 +26,28 @@ pub fn lawful(long: bool) -> Vec<(Made, usize)> {
     classes
 }
 
+/// The classes of lawful files on which the second program goes in other orders, with how many of each, the six orders in turn.
+pub fn orders(long: bool) -> Vec<(Made, usize)> {
+    let of = |short, more| if long { more } else { short };
+    let mut classes = vec![
+        (Made::Lawful(Class::Tiny), of(12_000, 60_000)),
+        (Made::Lawful(Class::Small), of(6_000, 30_000)),
+        (Made::Lawful(Class::Mid), of(900, 6_000)),
+        (Made::Mixed, of(300, 3_000)),
+        (Made::Wide, of(300, 3_000)),
+        (Made::Contested(64), of(240, 1_200)),
+        (Made::Contested(128), of(60, 180)),
+        (Made::Contested(256), of(12, 36)),
+        (Made::Lawful(Class::Maximal), of(60, 240)),
+        (Made::Lawful(Class::Contested), of(6, 36)),
+        (Made::Lawful(Class::Crowded), of(12, 48)),
+        (Made::Worst(128), of(24, 120)),
+        (Made::Worst(256), of(0, 18)),
+    ];
+    classes.retain(|&(_, count)| count > 0);
+    classes
+}
+
 /// The classes of damaged files with how many of each.
 pub fn damaged(long: bool) -> Vec<(Made, usize)> {
     let each = if long { 40_000 } else { 3_000 };

@@ -2,6 +2,7 @@
 
 use crate::choice::Document;
 use crate::offers::{allot, Allotment};
+use crate::orders::{ended, Order};
 use crate::reading::{read, Refusal, Round};
 
 /// What a call answers; the answer bytes are the first 2n + 12m of the answer area, none where the call takes no answer area.
@@ -53,6 +54,16 @@ pub fn answer_of(allotment: &Allotment) -> Vec<u8> {
 
 /// The outcome of a call with areas of these lengths.
 pub fn call(file: &[u8], answer_len: usize, work_len: usize) -> Outcome {
+    call_by(|round| allot(round, &Document), file, answer_len, work_len)
+}
+
+/// The outcome of a call with areas of these lengths, a round that passes being allotted in this way.
+fn call_by(
+    allot: impl FnOnce(&Round) -> Allotment,
+    file: &[u8],
+    answer_len: usize,
+    work_len: usize,
+) -> Outcome {
     let round = match read(file) {
         Ok(round) => round,
         Err(refusal) => return refusal.into(),
@@ -60,7 +71,7 @@ pub fn call(file: &[u8], answer_len: usize, work_len: usize) -> Outcome {
     if answer_len < answer_bytes(&round) || work_len < work_bytes(&round) {
         return TOO_SMALL.into();
     }
-    let allotment = allot(&round, &Document);
+    let allotment = allot(&round);
     Outcome::Allotted {
         offers: allotment.offers,
         answer: answer_of(&allotment),
@@ -81,11 +92,30 @@ pub fn call_without_answer(file: &[u8], work_len: usize) -> Outcome {
 /// Makes the call on two lent areas and leaves in them what the document says.
 pub fn call_on(file: &[u8], answer: &mut [u8], work: &mut [u8]) -> Outcome {
     let outcome = call(file, answer.len(), work.len());
-    if let Outcome::Allotted { answer: bytes, .. } = &outcome {
+    leave(&outcome, file, answer, work);
+    outcome
+}
+
+/// Makes the call on two lent areas with candidates called up in an order.
+pub fn call_in_order_on(
+    order: Order,
+    seed: u64,
+    file: &[u8],
+    answer: &mut [u8],
+    work: &mut [u8],
+) -> Outcome {
+    let allot = |round: &Round| ended(round, &Document, order, seed).allotment;
+    let outcome = call_by(allot, file, answer.len(), work.len());
+    leave(&outcome, file, answer, work);
+    outcome
+}
+
+/// Leaves in both areas what an outcome leaves there.
+fn leave(outcome: &Outcome, file: &[u8], answer: &mut [u8], work: &mut [u8]) {
+    if let Outcome::Allotted { answer: bytes, .. } = outcome {
         answer[..bytes.len()].copy_from_slice(bytes);
         clear_work(file, work);
     }
-    outcome
 }
 
 /// Makes the call that takes no answer area on a lent work area.

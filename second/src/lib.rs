@@ -5,6 +5,7 @@ pub mod choice;
 pub mod generate;
 pub mod horizontal;
 pub mod offers;
+pub mod orders;
 pub mod printing;
 pub mod random;
 pub mod reading;

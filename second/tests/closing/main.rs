@@ -3,6 +3,7 @@
 mod naive;
 #[path = "../demand3/tiny.rs"]
 mod tiny;
+mod worked;
 mod wrong;
 
 use naive::by_trying;
@@ -11,10 +12,9 @@ use second::generate::{lawful_round, Class};
 use second::horizontal::use_of;
 use second::offers::{Allotment, Process, Seat};
 use second::random::Random;
-use second::reading::{read, Round};
-use std::fs;
-use std::path::PathBuf;
+use second::reading::Round;
 use tiny::tiny;
+use worked::worked;
 use wrong::{LastByNumber, MarkedLeftOut, SmallestPlace, UseCounted, WayKept};
 
 /// How many tiny rounds are run.
@@ -168,23 +168,6 @@ fn the_tiny_rounds_reject_marked_candidates_and_have_steps_that_take_both_ways()
     assert!(other * 4 > ROUNDS, "{other}");
 }
 
-/// The lawful rounds of the folder, with their names.
-fn worked() -> Vec<(String, Round)> {
-    let folder = PathBuf::from(env!("CARGO_MANIFEST_DIR")).join("../rounds");
-    let mut rounds: Vec<(String, Round)> = fs::read_dir(folder)
-        .expect("the rounds stand beside this package")
-        .map(|file| file.expect("a readable folder").path())
-        .filter(|path| path.extension().is_some_and(|ending| ending == "round"))
-        .filter_map(|path| {
-            let name = path.file_stem()?.to_str()?.to_string();
-            let round = read(&fs::read(path).ok()?).ok()?;
-            Some((name, round))
-        })
-        .collect();
-    rounds.sort_by(|one, other| one.0.cmp(&other.0));
-    rounds
-}
-
 /// What catches wrong closing places: the same in other words on tiny rounds, and the rounds of the folder.
 fn caught_by<R: Rule>(rule: &R) -> Vec<String> {
     let mut names = Vec::new();
@@ -218,7 +201,8 @@ fn counting_those_taken_for_use_is_caught() {
             "filled-though-marked",
             "lowest-for-use",
             "marked-and-rejected",
-            "moved-between-types"
+            "moved-between-types",
+            "rejected-goes-last"
         ]
     );
 }

@@ -130,13 +130,12 @@ fn same_choice<R: Rule + ?Sized>(round: &Round, rule: &R, random: &mut Random) -
 }
 
 #[test]
-fn statements_3_to_5_hold_of_larger_rounds() {
+fn statements_4_and_5_hold_of_larger_rounds() {
     let small = (0..1500).map(|seed| (Class::Small, seed));
     let mid = (0..6).map(|seed| (Class::Mid, seed));
     for (class, seed) in small.chain(mid) {
         let round = lawful_round(class, seed);
-        let found = any_order(&round, &Document, &mut Random::new(seed))
-            .and_then(|()| held_and_new_suffice(&round, &Document))
+        let found = held_and_new_suffice(&round, &Document)
             .and_then(|()| held_once(&round, &Document))
             .and_then(|()| completion_agrees_in_the_run(&round, &Document));
         assert_eq!(found, Ok(()), "{} {seed}", class.name());

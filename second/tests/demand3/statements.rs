@@ -2,7 +2,8 @@
 
 use crate::tiny::{lawful_entries, some_row};
 use second::choice::{category_of, Offer, Rule, Taken};
-use second::offers::{Allotment, Process, Seat};
+use second::offers::{Process, Seat};
+use second::orders::{ended, Order};
 use second::random::Random;
 use second::reading::{Entry, Round, OBC};
 
@@ -182,35 +183,11 @@ pub fn stable<R: Rule + ?Sized>(round: &Round, rule: &R, seats: &[Option<Seat>])
     Ok(())
 }
 
-/// The offers made to each institute, whatever their order, and the allotment.
-type Ended = (Vec<Vec<Offer>>, Allotment);
-
-/// Runs the offers, the next candidate being picked from those ready.
-fn run<R: Rule + ?Sized>(
-    round: &Round,
-    rule: &R,
-    mut pick: impl FnMut(&[usize]) -> usize,
-) -> Ended {
-    let mut process = Process::new(round, rule);
-    loop {
-        let ready = process.ready();
-        if ready.is_empty() {
-            break;
-        }
-        process.turn(pick(&ready));
-    }
-    let mut made = process.made.clone();
-    for offers in &mut made {
-        offers.sort();
-    }
-    (made, process.allotment())
-}
-
 /// Statement 3: any order of going gives the same offers, seats, steps and closing places.
 pub fn any_order<R: Rule + ?Sized>(round: &Round, rule: &R, random: &mut Random) -> Found {
-    let due = run(round, rule, |ready| ready[0]);
+    let due = ended(round, rule, Order::LowestFirst, 0);
     for _ in 0..8 {
-        if run(round, rule, |ready| random.pick(ready)) != due {
+        if ended(round, rule, Order::AtRandom, random.bits()) != due {
             return Err(format!("another order ends otherwise: {round:?}"));
         }
     }
