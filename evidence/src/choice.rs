@@ -4,9 +4,9 @@ use crate::area::Area;
 use crate::difference::{area_text, hex, Difference};
 use crate::probe;
 use crate::tally::Came;
-use second::choice::{Document, Offer, Rule, Way};
+use second::choice::{Document, Offer, Rule};
 use second::random::Random;
-use second::reading::{Candidate, Institute, Round, OPEN};
+use second::reading::{Candidate, Institute, Round, OBC, OPEN};
 use second::writing;
 
 /// Sets of offers, by the bits of their codes, that the places of a case draw from: at most one offer each, then also the open
@@ -33,10 +33,10 @@ pub struct Case {
     pub offers: Vec<u8>,
 }
 
-/// What is due at each merit place: the step, 0 for none, and 1 where that step takes the candidate for use, else 0.
+/// What is due at each merit place: the step, 0 for none, and the type that the step uses for the candidate, 0 for none.
 pub struct Due {
     pub steps: Vec<u8>,
-    pub uses: Vec<u8>,
+    pub types: Vec<u8>,
 }
 
 impl Case {
@@ -59,6 +59,31 @@ impl Case {
             institute,
             types,
             policy,
+            marks,
+            offers,
+        }
+    }
+
+    /// A made case of so many places in which everybody offers open, OBC or both, most hold several types, and every position is reserved.
+    pub fn of_types(random: &mut Random, places: usize) -> Self {
+        let types = random.from_to(3, 8);
+        let mut institute = some_institute(random, types, 0);
+        for category in [usize::from(OPEN), usize::from(OBC)] {
+            let positions = random.from_to(1, places + 1);
+            institute.positions[category] = positions;
+            for _ in 0..positions {
+                institute.reserved[category][random.from_to(0, types - 1)] += 1;
+            }
+        }
+        let thin = random.from_to(0, 1);
+        let marks = (0..places)
+            .map(|_| some_marks(random, types, thin, false))
+            .collect();
+        let offers = (0..places).map(|_| random.pick(&[1, 1, 8, 9])).collect();
+        Case {
+            institute,
+            types,
+            policy: random.from_to(0, 1),
             marks,
             offers,
         }
@@ -107,11 +132,13 @@ impl Case {
             .collect();
         let mut due = Due {
             steps: vec![0; self.offers.len()],
-            uses: vec![0; self.offers.len()],
+            types: vec![0; self.offers.len()],
         };
-        for taken in Document.choose(&round, 0, &offers) {
-            due.steps[taken.offer.candidate] = taken.step;
-            due.uses[taken.offer.candidate] = u8::from(taken.way == Way::ForUse);
+        let taken = Document.choose(&round, 0, &offers);
+        let types = Document.types(&round, 0, &taken);
+        for (one, own) in taken.iter().zip(types) {
+            due.steps[one.offer.candidate] = one.step;
+            due.types[one.offer.candidate] = own;
         }
         due
     }
@@ -150,11 +177,11 @@ fn some_marks(random: &mut Random, types: usize, thin: usize, near: bool) -> u8 
     marks as u8
 }
 
-/// Lets each choose and compares the steps and the uses, and the bytes around them.
+/// Lets each choose and compares the steps and the types, and the bytes around them.
 pub fn compare(random: &mut Random, case: &Case) -> (Came, Option<Difference>) {
     let mut steps = Area::new(random, case.offers.len());
-    let mut uses = Area::new(random, case.offers.len());
-    let (mut due_steps, mut due_uses) = (steps.clone(), uses.clone());
+    let mut types = Area::new(random, case.offers.len());
+    let (mut due_steps, mut due_types) = (steps.clone(), types.clone());
     let body = case.body();
     probe::choose(
         &body,
@@ -163,22 +190,22 @@ pub fn compare(random: &mut Random, case: &Case) -> (Came, Option<Difference>) {
         &case.marks,
         &case.offers,
         steps.lent(),
-        uses.lent(),
+        types.lent(),
     );
     let due = case.due();
     due_steps.lent().copy_from_slice(&due.steps);
-    due_uses.lent().copy_from_slice(&due.uses);
-    if steps == due_steps && uses == due_uses {
+    due_types.lent().copy_from_slice(&due.types);
+    if steps == due_steps && types == due_types {
         return (Came::Accepted, None);
     }
     let text = |name: &str, own: &Area, other: &Area| {
         let place = area_text(name, own, other);
         format!("{name} {}{place}", hex(own.seen()))
     };
-    let both = |steps: &Area, uses: &Area, others: (&Area, &Area)| {
-        let (of_steps, of_uses) = others;
+    let both = |steps: &Area, types: &Area, others: (&Area, &Area)| {
+        let (of_steps, of_types) = others;
         let steps = text("steps", steps, of_steps);
-        format!("{steps}; {}", text("uses", uses, of_uses))
+        format!("{steps}; {}", text("types", types, of_types))
     };
     let difference = Difference {
         asked: format!(
@@ -188,8 +215,8 @@ pub fn compare(random: &mut Random, case: &Case) -> (Came, Option<Difference>) {
             case.offers.len()
         ),
         input: [body, case.marks.clone(), case.offers.clone()].concat(),
-        unit: both(&steps, &uses, (&due_steps, &due_uses)),
-        second: both(&due_steps, &due_uses, (&steps, &uses)),
+        unit: both(&steps, &types, (&due_steps, &due_types)),
+        second: both(&due_steps, &due_types, (&steps, &types)),
     };
     (Came::Accepted, Some(difference))
 }

@@ -48,11 +48,10 @@ impl Run {
     /// So many files of a class, others for each name.
     fn made_for(&self, name: &str, made: Made, count: usize) -> impl Iterator<Item = Vec<u8>> {
         let mut random = self.random(name);
-        // The worst rounds with the first seeds are fixed ones.
-        let fixed = matches!(made, Made::Worst(_));
+        let fixed = made.fixed();
         (0..count as u64).map(move |number| {
             let seed = random.bits();
-            made.file(if fixed && number < 3 { number } else { seed })
+            made.file(if number < fixed { number } else { seed })
         })
     }
 
@@ -116,7 +115,7 @@ impl Run {
         self.calls("a, cut and extended", files.len(), files.into_iter())
     }
 
-    /// Areas of lengths around each bound, on lawful files and on refused ones.
+    /// Areas of lengths around each bound and an answer area without room for the types, on lawful files and on refused ones.
     pub fn lengths(&self, folder: &Path) -> Tally {
         let name = "area lengths";
         let mut random = self.random(name);
@@ -126,13 +125,15 @@ impl Run {
         files.extend(self.made(Made::Lawful(Class::Small), 50 * times));
         files.extend(self.made(Made::Lawful(Class::Mid), 4 * times));
         files.extend(self.made(Made::TwoFaults, 20 * times));
-        let mut tally = Tally::new(name, files.len() * 49, self.long);
+        let mut tally = Tally::new(name, files.len() * 56, self.long);
         for file in files {
             let least = needed(&file).unwrap_or(Lengths {
-                answer: 18,
+                answer: 21,
                 work: 24,
             });
-            for answer in around(&mut random, least.answer) {
+            let without_types = least.answer - least.work / 8;
+            let answers = around(&mut random, least.answer);
+            for answer in answers.into_iter().chain([without_types]) {
                 for work in around(&mut random, least.work) {
                     let lengths = Lengths { answer, work };
                     let (came, difference) = call::compare(&mut random, &file, lengths);
@@ -166,12 +167,23 @@ impl Run {
     }
 
     /// Choices of one institute from the least to the most places.
-    pub fn choices(&self, name: &str, (least, most): (usize, usize), count: usize) -> Tally {
+    pub fn choices(&self, name: &str, places: (usize, usize), count: usize) -> Tally {
+        self.chosen(name, places, count, Case::made)
+    }
+
+    /// Choices of cases that are made in a way, from the least to the most places.
+    fn chosen(
+        &self,
+        name: &str,
+        (least, most): (usize, usize),
+        count: usize,
+        made: impl Fn(&mut Random, usize) -> Case,
+    ) -> Tally {
         let mut random = self.random(name);
         let mut tally = Tally::new(name, count, self.long);
         for _ in 0..count {
             let places = random.from_to(least, most);
-            let case = Case::made(&mut random, places);
+            let case = made(&mut random, places);
             let (came, difference) = choice::compare(&mut random, &case);
             tally.count(came, difference);
         }
@@ -180,16 +192,14 @@ impl Run {
 
     /// Choices with marks above type L.
     pub fn stray(&self, count: usize) -> Tally {
-        let name = "choose, stray marks";
-        let mut random = self.random(name);
-        let mut tally = Tally::new(name, count, self.long);
-        for _ in 0..count {
-            let places = random.from_to(0, 40);
-            let case = Case::made(&mut random, places).with_stray_marks(&mut random);
-            let (came, difference) = choice::compare(&mut random, &case);
-            tally.count(came, difference);
-        }
-        tally
+        self.chosen("choose, stray marks", (0, 40), count, |random, places| {
+            Case::made(random, places).with_stray_marks(random)
+        })
+    }
+
+    /// Choices in which most candidates hold several types and every position is reserved.
+    pub fn of_types(&self, count: usize) -> Tally {
+        self.chosen("choose, types", (2, 24), count, Case::of_types)
     }
 }
 

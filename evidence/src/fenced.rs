@@ -30,6 +30,7 @@ fn files(run: &Run, folder: &Path) -> Vec<Vec<u8>> {
         (Made::Lawful(Class::Tiny), 300),
         (Made::Lawful(Class::Small), 300),
         (Made::Lawful(Class::Mid), 6),
+        (Made::Types(32), 30),
         (Made::TwoFaults, 200),
         (Made::Torn, 1_000),
     ] {
@@ -84,11 +85,11 @@ pub fn alone(run: &Run, folder: &Path) -> io::Result<()> {
     writeln!(out, "end")
 }
 
-/// Makes choices whose body, marks, offers, steps and uses each touch a fence.
+/// Makes choices whose body, marks, offers, steps and types each touch a fence.
 fn choices(run: &Run, random: &mut second::random::Random) -> io::Result<()> {
     let fence = || Fence::new(1_024).ok_or_else(|| io::Error::other("no pages"));
     let (mut of_body, mut of_marks) = (fence()?, fence()?);
-    let (mut of_offers, mut of_steps, mut of_uses) = (fence()?, fence()?, fence()?);
+    let (mut of_offers, mut of_steps, mut of_types) = (fence()?, fence()?, fence()?);
     for _ in 0..if run.long { 20_000 } else { 2_000 } {
         let places = random.from_to(0, 40);
         let case = Case::made(random, places);
@@ -98,9 +99,9 @@ fn choices(run: &Run, random: &mut second::random::Random) -> io::Result<()> {
             let marks = of_marks.lend_to_read(&case.marks, side);
             let offers = of_offers.lend_to_read(&case.offers, side);
             let steps = of_steps.lend(&vec![9; places], side);
-            let uses = of_uses.lend(&vec![9; places], side);
-            probe::choose(body, case.types, case.policy, marks, offers, steps, uses);
-            if *steps != due.steps || *uses != due.uses {
+            let types = of_types.lend(&vec![9; places], side);
+            probe::choose(body, case.types, case.policy, marks, offers, steps, types);
+            if *steps != due.steps || *types != due.types {
                 return Err(io::Error::other("a choice differs"));
             }
         }

@@ -25,6 +25,8 @@ pub enum Made {
     Rows(usize),
     /// A round of so many candidates that is hard on the placing search.
     Worst(usize),
+    /// A round of so many candidates with several types each and every position reserved.
+    Types(usize),
     /// Files made for one refusal.
     Refused(u8),
     /// Files with two faults.
@@ -43,9 +45,19 @@ impl Made {
             Made::Contested(n) => format!("contested-{n}"),
             Made::Rows(entries) => format!("rows-{entries}"),
             Made::Worst(n) => format!("worst-{n}"),
+            Made::Types(n) => format!("types-{n}"),
             Made::Refused(number) => format!("refused-{number}"),
             Made::TwoFaults => "two-faults".to_string(),
             Made::Torn => "torn".to_string(),
+        }
+    }
+
+    /// How many of the first seeds stand for a shape of their own.
+    pub fn fixed(self) -> u64 {
+        match self {
+            Made::Worst(_) => 3,
+            Made::Types(_) => 2,
+            _ => 0,
         }
     }
 
@@ -58,6 +70,7 @@ impl Made {
             Made::Contested(n) => write(&shapes::contested(n, seed)),
             Made::Rows(entries) => write(&shapes::short_rows(512, entries, seed)),
             Made::Worst(n) => write(&shapes::worst(n, seed)),
+            Made::Types(n) => write(&shapes::types(n, seed)),
             Made::Refused(number) => damaged(number, seed).file,
             Made::TwoFaults => two_faults(seed).file,
             Made::Torn => torn(seed),

@@ -21,6 +21,10 @@ pub fn lawful(long: bool) -> Vec<(Made, usize)> {
         (Made::Worst(128), of(20, 400)),
         (Made::Worst(256), of(3, 40)),
         (Made::Worst(512), of(0, 12)),
+        (Made::Types(16), of(3_000, 30_000)),
+        (Made::Types(32), of(1_000, 10_000)),
+        (Made::Types(64), of(200, 2_000)),
+        (Made::Types(512), of(2, 20)),
     ];
     classes.retain(|&(_, count)| count > 0);
     classes
@@ -43,6 +47,9 @@ pub fn orders(long: bool) -> Vec<(Made, usize)> {
         (Made::Lawful(Class::Crowded), of(12, 48)),
         (Made::Worst(128), of(24, 120)),
         (Made::Worst(256), of(0, 18)),
+        (Made::Types(16), of(1_200, 12_000)),
+        (Made::Types(32), of(600, 3_000)),
+        (Made::Types(64), of(60, 600)),
     ];
     classes.retain(|&(_, count)| count > 0);
     classes

@@ -18,8 +18,8 @@ extern "C" {
         offers_len: usize,
         steps: *mut u8,
         steps_len: usize,
-        uses: *mut u8,
-        uses_len: usize,
+        used: *mut u8,
+        used_len: usize,
     );
 }
 
@@ -34,7 +34,7 @@ pub fn verdict(file: &[u8]) -> Result<(), Refusal> {
     }
 }
 
-/// What an institute chooses: the body is that of its record; at each merit place, best first, stand the marks and the offers (a bit for each category code) of the candidate there, and the step (0 for none) and the use (1 where that step took the candidate for use, else 0) are written.
+/// What an institute chooses: the body is that of its record; at each merit place, best first, stand the marks and the offers (a bit for each category code) of the candidate there, and the step (0 for none) and the type that the step used for the candidate (0 where the candidate was taken by merit or not at all) are written.
 pub fn choose(
     body: &[u8],
     types: usize,
@@ -42,7 +42,7 @@ pub fn choose(
     marks: &[u8],
     offers: &[u8],
     steps: &mut [u8],
-    uses: &mut [u8],
+    used: &mut [u8],
 ) {
     // SAFETY: the choice reads and writes within the lengths given, keeps nothing, and asks for nothing else.
     unsafe {
@@ -57,8 +57,8 @@ pub fn choose(
             offers.len(),
             steps.as_mut_ptr(),
             steps.len(),
-            uses.as_mut_ptr(),
-            uses.len(),
+            used.as_mut_ptr(),
+            used.len(),
         );
     }
 }

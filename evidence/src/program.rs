@@ -194,6 +194,7 @@ fn files(run: &Run, folder: &Path) -> Vec<Vec<u8>> {
         (Made::Lawful(Size::Small), 100),
         (Made::Lawful(Size::Mid), 10),
         (Made::Lawful(Size::Maximal), 1),
+        (Made::Types(32), 20),
         (Made::TwoFaults, 40),
         (Made::Torn, 60),
     ] {

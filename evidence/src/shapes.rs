@@ -271,3 +271,96 @@ fn chain_marks(place: usize, each: usize) -> u8 {
         _ => two_types(place),
     }
 }
+
+/// A round of n candidates, a multiple of 16, with every position reserved for one of 8 types: seed 0 gives the one apart, where everybody holds half of all types and the institutes are n / 16; 1 the one in vain; others have fewer institutes and any marks.
+pub fn types(n: usize, seed: u64) -> Round {
+    let mut random = Random::new(seed);
+    match seed {
+        0 => all_reserved(&mut random, n, n / 16, 4),
+        1 => in_vain(&mut random, n),
+        _ => {
+            let m = random.from_to(1, n / 16);
+            let held = random.from_to(2, 8);
+            all_reserved(&mut random, n, m, held)
+        }
+    }
+}
+
+/// A round of n candidates at m institutes with about n positions in all, each reserved, and so many types for each candidate.
+fn all_reserved(random: &mut Random, n: usize, m: usize, held: usize) -> Round {
+    let each = n / m;
+    let institutes = (0..m)
+        .map(|_| {
+            let mut institute = bare(8);
+            for (category, positions) in [(0, each / 2), (1, each / 8), (2, each / 8)]
+                .into_iter()
+                .chain([(3, each / 8), (4, each / 8)])
+            {
+                let reserved = spread(random, 8, positions);
+                put(&mut institute, category, positions, reserved);
+            }
+            institute
+        })
+        .collect();
+    let candidates = (0..n)
+        .map(|_| {
+            let code = random.pick(&[0, 0, 1, 2, 3, 4]);
+            let mut row = entries(m, code);
+            random.shuffle(&mut row);
+            row.truncate(16);
+            let marks = some_types(random, held);
+            Candidate { code, marks, row }
+        })
+        .collect();
+    let merit = (0..m)
+        .map(|_| {
+            let mut list: Vec<usize> = (0..n).collect();
+            random.shuffle(&mut list);
+            list
+        })
+        .collect();
+    Round {
+        types: 8,
+        policy: 1,
+        institutes,
+        candidates,
+        merit,
+    }
+}
+
+/// So many of 8 types.
+fn some_types(random: &mut Random, held: usize) -> u8 {
+    let mut types: Vec<u8> = (0..8).collect();
+    random.shuffle(&mut types);
+    types[..held].iter().fold(0, |marks, one| marks | 1 << one)
+}
+
+/// A round of n candidates at one institute with n open positions, half of them for type 8: the better half of all candidates hold every type, and the others take up types 1 to 7, so that each of the better half tries these in vain.
+fn in_vain(random: &mut Random, n: usize) -> Round {
+    let mut reserved = vec![0; 8];
+    reserved[7] = n / 2;
+    let candidates = (0..n)
+        .map(|number| {
+            let mut marks = 255;
+            if number >= n / 2 {
+                let own = number % 7;
+                reserved[own] += 1;
+                marks = 1 << own | (random.bits() & random.bits() & 127) as u8;
+            }
+            Candidate {
+                code: OPEN,
+                marks,
+                row: entries(1, OPEN),
+            }
+        })
+        .collect();
+    let mut institute = bare(8);
+    put(&mut institute, usize::from(OPEN), n, reserved);
+    Round {
+        types: 8,
+        policy: 0,
+        institutes: vec![institute],
+        candidates,
+        merit: vec![(0..n).collect()],
+    }
+}

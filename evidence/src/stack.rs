@@ -65,6 +65,7 @@ fn files() -> Vec<Vec<u8>> {
         files.extend((1..=5).map(|seed| Made::Lawful(class).file(seed)));
     }
     files.extend((0..4).map(|seed| Made::Worst(512).file(seed)));
+    files.extend((0..3).map(|seed| Made::Types(512).file(seed)));
     files.extend(
         (1..=13).flat_map(|number| (0..5).map(move |seed| Made::Refused(number).file(seed))),
     );
@@ -91,7 +92,7 @@ pub fn text() -> String {
         let case = Case::made(&mut random, if number < 40 { 512 } else { 60 });
         let body = case.body();
         let mut steps = vec![0; case.offers.len()];
-        let mut uses = steps.clone();
+        let mut types = steps.clone();
         choose = choose.max(depth(&mut || {
             probe::choose(
                 &body,
@@ -100,7 +101,7 @@ pub fn text() -> String {
                 &case.marks,
                 &case.offers,
                 &mut steps,
-                &mut uses,
+                &mut types,
             );
         }));
     }

@@ -64,7 +64,9 @@ pub fn page(
          Written by `./bench`: one process, one core of {}, both built for release, the same files for the unit and the second\n\
          program. A class has 1 to 20 files; each time is the mean over them of the median, or the best, of the calls timed, three\n\
          of each file at least. n is the largest number of candidates. The worst ones are hard on the\n\
-         placing search: one institute, half of all candidates too many for its 8 types (`evidence/src/shapes.rs`).\n\n\
+         placing search: one institute, half of all candidates too many for its 8 types. In those of types every position is reserved\n\
+         and most candidates hold several types: apart, at 32 institutes, or together at one, where half of all candidates try seven types in\n\
+         vain before their own (`evidence/src/shapes.rs`).\n\n\
          {}\n## Cost over n\n\nThe contested shape, all but n and the positions equal.\n\n{}\n![cost over n]({plot})\n\n\
          ## Cost over offers\n\nThe contested shape at 512 candidates, the rows cut to so many entries: an institute holds at most 40, however many offers are\n\
          made to it.\n\n{}\n\

@@ -5,7 +5,7 @@ use crate::offers::{allot, Allotment};
 use crate::orders::{ended, Order};
 use crate::reading::{read, Refusal, Round};
 
-/// What a call answers; the answer bytes are the first 2n + 12m of the answer area, none where the call takes no answer area.
+/// What a call answers; the answer bytes are the first 3n + 12m of the answer area, none where the call takes no answer area.
 #[derive(Clone, Debug, PartialEq, Eq)]
 pub enum Outcome {
     Allotted { offers: usize, answer: Vec<u8> },
@@ -29,7 +29,7 @@ const TOO_SMALL: Refusal = Refusal {
 
 /// The bytes of the answer area a round needs.
 pub fn answer_bytes(round: &Round) -> usize {
-    2 * round.candidates.len() + 12 * round.institutes.len()
+    3 * round.candidates.len() + 12 * round.institutes.len()
 }
 
 /// The bytes of the work area a round needs.
@@ -49,6 +49,7 @@ pub fn answer_of(allotment: &Allotment) -> Vec<u8> {
     for place in allotment.closing.iter().flatten() {
         bytes.extend((*place as u16).to_le_bytes());
     }
+    bytes.extend(&allotment.types);
     bytes
 }
 

@@ -1,6 +1,6 @@
 //! One institute chooses: what its steps give from any set of offers to it.
 
-use crate::horizontal::use_of;
+use crate::horizontal::{first_placing, use_of};
 use crate::reading::{Round, OBC, OPEN};
 
 /// An offer to a known institute: a candidate, counted from 0, and the category of the entry.
@@ -78,6 +78,11 @@ pub trait Rule {
     fn closing(&self, merit: &[usize], taken: &[Taken]) -> [usize; 6] {
         largest_by_merit(merit, taken)
     }
+
+    /// The type of each of those an institute takes of all offers ever made to it, 0 for those in a fill by merit.
+    fn types(&self, round: &Round, institute: usize, taken: &[Taken]) -> Vec<u8> {
+        first_types(round, institute, taken)
+    }
 }
 
 /// The rule as the document says it.
@@ -124,6 +129,41 @@ pub fn largest_by_merit(merit: &[usize], taken: &[Taken]) -> [usize; 6] {
     places
 }
 
+/// For each of those taken, the type of the first placing of those whom the same step took for use, 0 for the others.
+pub fn first_types(round: &Round, institute: usize, taken: &[Taken]) -> Vec<u8> {
+    let mut types = vec![0; taken.len()];
+    for step in 1..=6 {
+        let places = used_by_merit(&round.merit[institute], taken, step);
+        let marks: Vec<u8> = places
+            .iter()
+            .map(|&place| round.candidates[taken[place].offer.candidate].marks)
+            .collect();
+        let placing = first_placing(&marks, &reserved_of(round, institute, step));
+        for (place, given) in places.into_iter().zip(placing) {
+            types[place] = given;
+        }
+    }
+    types
+}
+
+/// Those whom a step took for use, as places in the list of those taken, read down the merit list.
+pub fn used_by_merit(merit: &[usize], taken: &[Taken], step: u8) -> Vec<usize> {
+    let place_of = |&candidate: &usize| {
+        taken.iter().position(|one| {
+            (one.offer.candidate, one.step, one.way) == (candidate, step, Way::ForUse)
+        })
+    };
+    merit.iter().filter_map(place_of).collect()
+}
+
+/// The positions that a step reserves for each type: none at step 6.
+pub fn reserved_of(round: &Round, institute: usize, step: u8) -> Vec<usize> {
+    match step {
+        6 => vec![0; round.types],
+        _ => round.institutes[institute].reserved[usize::from(category_of(step))].clone(),
+    }
+}
+
 /// Runs the steps of one institute over a set of offers, under a rule.
 pub fn steps<R: Rule + ?Sized>(
     rule: &R,
@@ -133,19 +173,17 @@ pub fn steps<R: Rule + ?Sized>(
     earlier: Earlier,
 ) -> Vec<Taken> {
     let own = &round.institutes[institute];
-    let none = vec![0; round.types];
     let last = if round.policy == 1 { 6 } else { 5 };
     let mut taken: Vec<Taken> = Vec::new();
     for number in 1..=last {
         let category = category_of(number);
-        let (positions, reserved) = if number == 6 {
+        let positions = if number == 6 {
             let filled = taken.iter().filter(|one| one.step == 4).count();
-            let positions = rule.dereserved(own.positions[usize::from(OBC)], filled);
-            (positions, &none)
+            rule.dereserved(own.positions[usize::from(OBC)], filled)
         } else {
-            let category = usize::from(category);
-            (own.positions[category], &own.reserved[category])
+            own.positions[usize::from(category)]
         };
+        let reserved = &reserved_of(round, institute, number);
         let considered = considered(&round.merit[institute], offers, category, &taken, earlier);
         let marks = considered
             .iter()

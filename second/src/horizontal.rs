@@ -1,4 +1,4 @@
-//! The use of a set of candidates, as a maximum flow worked out from nothing each time.
+//! The use of a set of candidates, as a maximum flow worked out from nothing each time, and the first placing of a list of them.
 
 /// Candidates with the same marks, how many there are, and how many of them each type was given.
 struct Group {
@@ -34,6 +34,32 @@ pub fn use_of(marks: &[u8], reserved: &[usize]) -> usize {
         }
     }
     total
+}
+
+/// The first placing of candidates with these marks, who can all be given reserved positions, read down the list: for each the smallest type, from 1, with which those behind can still all be given positions; 0 where no type is such.
+pub fn first_placing(marks: &[u8], reserved: &[usize]) -> Vec<u8> {
+    let mut room = reserved.to_vec();
+    let mut types = Vec::new();
+    for (place, &own) in marks.iter().enumerate() {
+        let behind = &marks[place + 1..];
+        let first =
+            (0..room.len()).find(|&held| own >> held & 1 == 1 && leaves(&room, held, behind));
+        if let Some(held) = first {
+            room[held] -= 1;
+        }
+        types.push(first.map_or(0, |held| held as u8 + 1));
+    }
+    types
+}
+
+/// Whether a position of a type is there and, once it is given, candidates with these marks can all be given positions of the others.
+fn leaves(room: &[usize], given: usize, behind: &[u8]) -> bool {
+    let mut left = room.to_vec();
+    if left[given] == 0 {
+        return false;
+    }
+    left[given] -= 1;
+    use_of(behind, &left) == behind.len()
 }
 
 /// The candidates grouped by their marks, nobody given a position.

@@ -1,4 +1,4 @@
-//! The second program: seats and offers of a round file, made from the documents alone.
+//! The second program: seats, types and offers of a round file, made from the documents alone.
 
 pub mod answer;
 pub mod choice;

@@ -10,12 +10,13 @@ pub struct Seat {
     pub step: u8,
 }
 
-/// What the offers end with: their number, each candidate's seat, and each institute's closing places.
+/// What the offers end with: their number, each candidate's seat, each institute's closing places, and each candidate's type, 0 for none.
 #[derive(Clone, Debug, PartialEq, Eq)]
 pub struct Allotment {
     pub offers: usize,
     pub seats: Vec<Option<Seat>>,
     pub closing: Vec<[usize; 6]>,
+    pub types: Vec<u8>,
 }
 
 /// The offers made so far to each institute, in the order made, what each took of them, and how many entries each candidate has tried.
@@ -65,15 +66,18 @@ impl<'a, R: Rule + ?Sized> Process<'a, R> {
         entry
     }
 
-    /// The number of offers made, the seats held, and the closing places in what each institute took of all offers made to it.
+    /// The number of offers made, the seats held, and the closing places and types in what each institute took of all offers made to it.
     pub fn allotment(&self) -> Allotment {
         let mut seats = vec![None; self.tried.len()];
+        let mut types = vec![0; self.tried.len()];
         for (institute, held) in self.held.iter().enumerate() {
-            for taken in held {
+            let given = self.rule.types(self.round, institute, held);
+            for (taken, own) in held.iter().zip(given) {
                 seats[taken.offer.candidate] = Some(Seat {
                     institute,
                     step: taken.step,
                 });
+                types[taken.offer.candidate] = own;
             }
         }
         let institutes = self.round.merit.iter().zip(&self.held);
@@ -83,6 +87,7 @@ impl<'a, R: Rule + ?Sized> Process<'a, R> {
             closing: institutes
                 .map(|(merit, held)| self.rule.closing(merit, held))
                 .collect(),
+            types,
         }
     }
 }

@@ -5,7 +5,7 @@ use crate::offers::allot;
 use crate::reading::read;
 use std::fmt::Write;
 
-/// The whole text printed for a file: offers, seats and closing places, or the refusal.
+/// The whole text printed for a file: offers, seats with their types and closing places, or the refusal.
 pub fn print(file: &[u8]) -> String {
     let round = match read(file) {
         Ok(round) => round,
@@ -13,9 +13,10 @@ pub fn print(file: &[u8]) -> String {
     };
     let allotment = allot(&round, &Document);
     let mut text = format!("offers {}\n", allotment.offers);
-    for (candidate, seat) in allotment.seats.iter().enumerate() {
+    let candidates = allotment.seats.iter().zip(&allotment.types);
+    for (candidate, (seat, own)) in candidates.enumerate() {
         let (institute, step) = seat.map_or((0, 0), |seat| (seat.institute + 1, seat.step));
-        let _ = writeln!(text, "{} {} {}", candidate + 1, institute, step);
+        let _ = writeln!(text, "{} {institute} {step} {own}", candidate + 1);
     }
     for (institute, places) in allotment.closing.iter().enumerate() {
         let _ = write!(text, "closing {}", institute + 1);

@@ -5,6 +5,8 @@ use second::{call, call_on, call_without_answer, call_without_answer_on, Outcome
 const A: &[u8] = include_bytes!("../../rounds/a.round");
 const CUT: &[u8] = include_bytes!("../../rounds/cut-71.round");
 const EMPTY_ROW: &[u8] = include_bytes!("../../rounds/empty-row.round");
+const MARKED_AND_REJECTED: &[u8] = include_bytes!("../../rounds/marked-and-rejected.round");
+const ALL_EIGHT_TYPES: &[u8] = include_bytes!("../../rounds/all-eight-types.round");
 const TOO_SMALL: Outcome = Outcome::Refused {
     number: 14,
     offset: 0,
@@ -14,14 +16,15 @@ const TOO_SMALL: Outcome = Outcome::Refused {
 fn answer_of_a() -> Vec<u8> {
     let mut bytes = vec![0, 0, 1, 4, 1, 1];
     bytes.extend([0, 0, 0, 0, 0, 0, 2, 0, 0, 0, 0, 0]);
+    bytes.extend([0, 0, 1]);
     bytes
 }
 
 #[test]
-fn an_answer_area_of_17_bytes_is_refused_and_18_suffice() {
-    assert_eq!(call(A, 17, 24), TOO_SMALL);
+fn an_answer_area_of_20_bytes_is_refused_and_21_suffice() {
+    assert_eq!(call(A, 20, 24), TOO_SMALL);
     assert_eq!(
-        call(A, 18, 24),
+        call(A, 21, 24),
         Outcome::Allotted {
             offers: 4,
             answer: answer_of_a()
@@ -30,8 +33,26 @@ fn an_answer_area_of_17_bytes_is_refused_and_18_suffice() {
 }
 
 #[test]
+fn every_answer_area_below_3n_and_12m_is_refused() {
+    for (file, least) in [
+        (A, 21),
+        (EMPTY_ROW, 15),
+        (MARKED_AND_REJECTED, 42),
+        (ALL_EIGHT_TYPES, 42),
+    ] {
+        for length in 0..least {
+            assert_eq!(call(file, length, 80), TOO_SMALL, "{length}");
+        }
+        for length in least..least + 50 {
+            let outcome = call(file, length, 80);
+            assert!(matches!(outcome, Outcome::Allotted { .. }), "{length}");
+        }
+    }
+}
+
+#[test]
 fn a_work_area_of_23_bytes_is_refused() {
-    assert_eq!(call(A, 18, 23), TOO_SMALL);
+    assert_eq!(call(A, 21, 23), TOO_SMALL);
     assert_eq!(call_without_answer(A, 23), TOO_SMALL);
 }
 
@@ -52,18 +73,26 @@ fn a_call_without_answer_area_is_asked_only_for_work() {
 
 #[test]
 fn bytes_beyond_stay() {
-    let mut answer = [9; 21];
-    let mut work = [7; 30];
-    call_on(A, &mut answer, &mut work);
-    assert_eq!(answer[..18], answer_of_a());
-    assert_eq!(answer[18..], [9; 3]);
-    assert_eq!(work[..24], [0; 24]);
-    assert_eq!(work[24..], [7; 6]);
+    for more in 0..100 {
+        let mut answer = vec![9; 21 + more];
+        let mut work = vec![7; 24 + more];
+        call_on(A, &mut answer, &mut work);
+        assert_eq!(answer[..21], answer_of_a());
+        assert_eq!(answer[21..], vec![9; more]);
+        assert_eq!(work[..24], [0; 24]);
+        assert_eq!(work[24..], vec![7; more]);
+    }
 }
 
 #[test]
 fn a_refusal_changes_neither_area() {
-    for (file, answer_len, work_len) in [(A, 17, 24), (A, 18, 23), (CUT, 30, 30), (&[], 0, 0)] {
+    for (file, answer_len, work_len) in [
+        (A, 18, 24),
+        (A, 20, 24),
+        (A, 21, 23),
+        (CUT, 30, 30),
+        (&[], 0, 0),
+    ] {
         let mut answer = vec![9; answer_len];
         let mut work = vec![7; work_len];
         let outcome = call_on(file, &mut answer, &mut work);
@@ -84,10 +113,28 @@ fn a_fault_of_the_file_comes_before_small_areas() {
 
 #[test]
 fn work_bytes_are_zero_also_after_no_offer() {
-    let mut answer = [9; 14];
+    let mut answer = [9; 15];
     let mut work = [7; 9];
     let outcome = call_on(EMPTY_ROW, &mut answer, &mut work);
     assert!(matches!(outcome, Outcome::Allotted { offers: 0, .. }));
-    assert_eq!(answer, [0; 14]);
+    assert_eq!(answer, [0; 15]);
     assert_eq!(work, [0, 0, 0, 0, 0, 0, 0, 0, 7]);
+}
+
+#[test]
+fn seats_closing_places_and_types_stand_in_this_order() {
+    let mut answer = [9; 44];
+    call_on(MARKED_AND_REJECTED, &mut answer, &mut [7; 48]);
+    assert_eq!(answer[..12], [0, 0, 2, 1, 0, 0, 1, 1, 1, 1, 1, 1]);
+    assert_eq!(answer[12..24], [1, 0, 0, 0, 0, 0, 0, 0, 0, 0, 0, 0]);
+    assert_eq!(answer[24..36], [1, 0, 0, 0, 0, 0, 0, 0, 0, 0, 0, 0]);
+    assert_eq!(answer[36..], [0, 0, 0, 2, 1, 0, 9, 9]);
+}
+
+#[test]
+fn types_stand_as_their_numbers() {
+    let mut answer = [9; 43];
+    call_on(ALL_EIGHT_TYPES, &mut answer, &mut [7; 80]);
+    assert_eq!(answer[20..32], [0, 0, 0, 0, 0, 0, 0, 0, 9, 0, 0, 0]);
+    assert_eq!(answer[32..], [0, 0, 1, 8, 7, 6, 5, 4, 3, 2, 9]);
 }

@@ -59,12 +59,13 @@ fn refusal_14_is_reached_by_each_area_too_small() {
         let file = lawful(Class::Small, seed);
         let round = lawful_round(Class::Small, seed);
         let (n, m) = (round.candidates.len(), round.institutes.len());
-        let (answer, work) = (2 * n + 12 * m, 8 * n);
+        let (answer, work) = (3 * n + 12 * m, 8 * n);
         let refused = Outcome::Refused {
             number: 14,
             offset: 0,
         };
         assert_eq!(call(&file, answer - 1, work), refused);
+        assert_eq!(call(&file, 2 * n + 12 * m, work), refused);
         assert_eq!(call(&file, answer, work - 1), refused);
         assert!(matches!(
             call(&file, answer, work),
@@ -153,7 +154,7 @@ fn areas_hold_what_the_document_says_for_any_file() {
             } => {
                 let round = read(&file).expect("an allotted file is lawful");
                 let (n, m) = (round.candidates.len(), round.institutes.len());
-                assert_eq!(bytes.len(), 2 * n + 12 * m);
+                assert_eq!(bytes.len(), 3 * n + 12 * m);
                 assert_eq!(answer[..bytes.len()], bytes);
                 assert!(answer[bytes.len()..].iter().all(|&byte| byte == 0xa5));
                 assert!(work[..8 * n].iter().all(|&byte| byte == 0));

@@ -11,10 +11,11 @@ static unsigned two_bytes(const uint8_t *at) {
     return at[0] + 256u * at[1];
 }
 
-/* The lines below the offers: candidate, institute, step; then each institute with its six closing places. */
+/* The lines below the offers: candidate, institute, step, type; then each institute with its six closing places. */
 static void print_answer(const uint8_t *answer, unsigned n, unsigned m) {
+    const uint8_t *types = answer + 2 * n + 12 * m;
     for (unsigned candidate = 0; candidate < n; candidate++) {
-        printf("%u %u %u\n", candidate + 1, answer[2 * candidate], answer[2 * candidate + 1]);
+        printf("%u %u %u %u\n", candidate + 1, answer[2 * candidate], answer[2 * candidate + 1], types[candidate]);
     }
     for (unsigned institute = 0; institute < m; institute++) {
         printf("closing %u", institute + 1);

@@ -8,11 +8,12 @@ fn two_bytes(bytes: &[u8], at: usize) -> usize {
     usize::from(u16::from_le_bytes([bytes[at], bytes[at + 1]]))
 }
 
-/// The lines below the offers: candidate, institute, step; then each institute with its six closing places.
+/// The lines below the offers: candidate, institute, step, type; then each institute with its six closing places.
 fn print_answer(answer: &[u8], n: usize, m: usize) {
-    for candidate in 0..n {
+    let types = &answer[2 * n + 12 * m..];
+    for (candidate, used) in types[..n].iter().enumerate() {
         let seat = &answer[2 * candidate..];
-        println!("{} {} {}", candidate + 1, seat[0], seat[1]);
+        println!("{} {} {} {used}", candidate + 1, seat[0], seat[1]);
     }
     for institute in 0..m {
         print!("closing {}", institute + 1);

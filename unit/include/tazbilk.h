@@ -12,7 +12,7 @@ extern "C" {
 #endif
 
 /* The bytes of the areas that a round of n candidates and m institutes needs. */
-#define TAZBILK_ANSWER_SIZE(n, m) (2 * (size_t)(n) + 12 * (size_t)(m))
+#define TAZBILK_ANSWER_SIZE(n, m) (3 * (size_t)(n) + 12 * (size_t)(m))
 #define TAZBILK_WORK_SIZE(n) (8 * (size_t)(n))
 
 /* The bytes that suffice for every round, and those of the longest lawful file. */
@@ -24,7 +24,9 @@ extern "C" {
    question, the byte offset where it is refused; line N of unit/meanings.txt says what a refusal with number N means. Any
    file and areas of any length are taken. Where it is allotted, the answer area begins with two bytes for each candidate,
    institute and step (0 0 for none), then for each institute six closing places of two bytes, the low byte first: for steps
-   1 to 6, the largest merit place among those whom the step seated in its fill by merit, 0 if nobody. */
+   1 to 6, the largest merit place among those whom the step seated in its fill by merit, 0 if nobody; then one byte for each
+   candidate, from byte 2n + 12m on: the horizontal type under which the candidate is seated, 0 for those whom a step seated
+   in its fill by merit, marked or not, and for those without a seat. */
 void tazbilk_allot(const uint8_t *file, size_t file_len,
                    uint8_t *answer, size_t answer_len,
                    uint8_t *work, size_t work_len,

@@ -11,7 +11,7 @@ pub const WORK_MOST: usize = work_size(512);
 
 /// The bytes of the answer area that a round of n candidates and m institutes needs.
 pub const fn answer_size(n: usize, m: usize) -> usize {
-    2 * n + 12 * m
+    3 * n + 12 * m
 }
 
 /// The bytes of the work area that a round of n candidates needs.

@@ -11,16 +11,18 @@ fn refused(number: usize, offset: usize) -> Answer {
 
 #[test]
 fn file_a_is_allotted_and_what_lies_beyond_stays() {
-    let (mut answer, mut work) = ([9; 20], [7; 26]);
+    let (mut answer, mut work) = ([9; 23], [7; 26]);
     assert_eq!(
         allot(A, &mut answer, &mut work),
         Answer::Allotted { offers: 4 }
     );
     let seats = [0, 0, 1, 4, 1, 1];
     let closing = [0, 0, 0, 0, 0, 0, 2, 0, 0, 0, 0, 0];
+    let types = [0, 0, 1];
     assert_eq!(answer[..6], seats);
     assert_eq!(answer[6..18], closing);
-    assert_eq!(answer[18..], [9; 2]);
+    assert_eq!(answer[18..21], types);
+    assert_eq!(answer[21..], [9; 2]);
     assert_eq!(work[..24], [0; 24]);
     assert_eq!(work[24..], [7; 2]);
 }
@@ -39,8 +41,8 @@ fn areas_of_the_sizes_told_suffice_and_smaller_ones_are_refused() {
 }
 
 #[test]
-fn the_most_is_what_document_01_says() {
-    assert_eq!((FILE_MOST, ANSWER_MOST, WORK_MOST), (55_372, 1_408, 4_096));
+fn the_most_is_what_the_documents_say() {
+    assert_eq!((FILE_MOST, ANSWER_MOST, WORK_MOST), (55_372, 1_920, 4_096));
 }
 
 /// The meaning of a number.

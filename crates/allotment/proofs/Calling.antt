@@ -23,23 +23,23 @@ use Rattle.allotment.proofs.Files.Returns.{promise-refused, promise-ans
 -- a round that was read
 module _ {file : List ℕ} {h : CodeHead} {candidates merits : List ℕ} (hand : AtHand file h candidates merits) where
   -- the sizes that question 14 asks for
-  answer-size : answerSize (roundOf file) ≡ 2 * h .candidates + 12 * h .institutes
+  answer-size : answerSize (roundOf file) ≡ 3 * h .candidates + 12 * h .institutes
   answer-size = omega (arith, candidates-many hand, institutes-many hand)
 
   work-size : workSize (roundOf file) ≡ 8 * h .candidates
   work-size = omega (arith, candidates-many hand)
 
-  pub answer-fits : {size : ℕ} → 2 * h .candidates + 12 * h .institutes ≤ size → answerSize (roundOf file) ≤ size
+  pub answer-fits : {size : ℕ} → 3 * h .candidates + 12 * h .institutes ≤ size → answerSize (roundOf file) ≤ size
   answer-fits l = omega (arith, answer-size)
 
   module _ {answer work : List ℕ} where
-    pub answer-small : length answer < 2 * h .candidates + 12 * h .institutes → Promise file answer work (Refused 14 0) answer work
+    pub answer-small : length answer < 3 * h .candidates + 12 * h .institutes → Promise file answer work (Refused 14 0) answer work
     answer-small l = promise-answer-small file answer work (hand .passing) (omega (arith, answer-size))
 
     pub work-small : length work < 8 * h .candidates → Promise file answer work (Refused 14 0) answer work
     work-small l = promise-work-small file answer work (hand .passing) (omega (arith, work-size))
 
-    pub all-well : {offers : ℕ} {answerNow workNow : List ℕ} → 2 * h .candidates + 12 * h .institutes ≤ length answer → 8 * h .candidates ≤ length work
+    pub all-well : {offers : ℕ} {answerNow workNow : List ℕ} → 3 * h .candidates + 12 * h .institutes ≤ length answer → 8 * h .candidates ≤ length work
         → offers ≡ offersMade (roundOf file)
         → answerNow ≡ answerBytes (roundOf file) ++ drop (answerSize (roundOf file)) answer
         → workNow ≡ replicate (8 * h .candidates) 0 ++ drop (8 * h .candidates) work

@@ -1,12 +1,12 @@
 -- The bytes of the answer area and the sizes of both areas (document 01, "Offers": "The answer area gets ..", and question 14; document 02,
--- Point 1).
+-- Points 1 and 3).
 use Prim.Native.Nat.{ℕ, suc, _+_, _*_, _/_, _%_}
 use mathlib.Core.List.{List, [], _∷_, _++_}
 use lib.ListN.{getD}
 use Rattle.round.specs.Lists.{tabulate, joined}
 use Rattle.round.specs.Round.{Round}
 use Rattle.choice.specs.Account.{StepAccount, accountOf, closingPlace}
-use Rattle.offers.specs.Process.{Seat, noSeat, candidateCount, instituteCount, seats, accountAtEnd}
+use Rattle.offers.specs.Process.{Seat, noSeat, candidateCount, instituteCount, seats, accountAtEnd, typesUsed}
 
 -- a two-byte number, little-endian
 abbrev pub wordBytes : ℕ → List ℕ
@@ -24,15 +24,17 @@ closingPlaces r j = let steps : List StepAccount = accountAtEnd r j in tabulate 
 unfoldable pub closingBytes : Round → ℕ → List ℕ
 closingBytes r j = let places : List ℕ = closingPlaces r j in joined (tabulate 6 (λ k. wordBytes (getD places k 0)))
 
--- what the answer area gets: for each candidate institute and step, then for each institute six closing places
+-- what the answer area gets: for each candidate institute and step, then for each institute six closing places, then for each candidate the
+-- type used or 0
 unfoldable pub answerBytes : Round → List ℕ
 answerBytes r =
     let list : List Seat = seats r in
     joined (tabulate (candidateCount r) (λ i. seatBytes (getD list i noSeat)))
     ++ joined (tabulate (instituteCount r) (closingBytes r))
+    ++ typesUsed r
 
 abbrev pub answerSize : Round → ℕ
-answerSize r = 2 * candidateCount r + 12 * instituteCount r
+answerSize r = 3 * candidateCount r + 12 * instituteCount r
 
 abbrev pub workSize : Round → ℕ
 workSize r = 8 * candidateCount r
@@ -44,3 +46,7 @@ seatIn area i = record { institute = getD area (2 * i) 0; step = getD area (2 * 
 -- the list that stands in an answer area
 unfoldable pub seatsIn : ℕ → List ℕ → List Seat
 seatsIn n area = tabulate n (seatIn area)
+
+-- the type that stands for candidate i of n in an answer area with the closing places of m institutes
+abbrev pub typeStanding : ℕ → ℕ → List ℕ → ℕ → ℕ
+typeStanding n m area i = getD area (2 * n + 12 * m + i) 0

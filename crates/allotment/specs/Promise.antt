@@ -1,6 +1,6 @@
--- The promise of the public call: demands 1, 2 and 3 of the letter, for every input, with the closing places of document 02, Point 1, and
--- that any order of offers ends, with the offers, seats and steps of the list, its Point 2. That no call reads outside the file, goes wrong
--- or fails to finish is part of what it is for a function to be proved.
+-- The promise of the public call: demands 1, 2 and 3 of the letter, for every input, with the closing places of document 02, Point 1, that any
+-- order of offers ends, with the offers, seats and steps of the list, its Point 2, and the types used, its Point 3. That no call reads outside
+-- the file, goes wrong or fails to finish is part of what it is for a function to be proved.
 use mathlib.Core.Path.{_≡_}
 use Prim.Native.Nat.{ℕ}
 use mathlib.Core.List.{List}
@@ -13,10 +13,11 @@ use Rattle.allotment.specs.Outcome.{outcomeOf, outcome, answerAfter, wor
 use Rattle.allotment.specs.Truthful.{Truthful}
 use Rattle.offers.specs.Ended.{AtEnd}
 use Rattle.offers.specs.Orders.{AnyOrder}
+use Rattle.offers.specs.FirstTypes.{FirstTypes}
 use Rattle.offers.specs.Stable.{Stable}
 
--- of a call on a file with both lent areas: its answer, and what stands in the areas afterwards; `process` and `anyOrder` speak of the file's
--- round, whose number of offers and seats are those of the answer and the answer area
+-- of a call on a file with both lent areas: its answer, and what stands in the areas afterwards; `process`, `anyOrder` and `types` speak of the
+-- file's round, whose number of offers, seats and types are those of the answer and the answer area
 pub record Promise (file answer work : List ℕ) (result : Answer) (answerNow workNow : List ℕ) : Type 0 where
   pub answered : outcomeOf result ≡ outcome file (length answer) (length work)
   pub answerArea : answerNow ≡ answerAfter file answer work
@@ -25,3 +26,4 @@ pub record Promise (file answer work : List ℕ) (result : Answer) (answerNow wo
   pub stable : Accepted file answer work → Stable (roundOf file) (seatsIn (candidateCount (roundOf file)) answerNow)
   pub process : Accepted file answer work → AtEnd (roundOf file)
   pub anyOrder : Accepted file answer work → AnyOrder (roundOf file)
+  pub types : Accepted file answer work → FirstTypes (roundOf file)

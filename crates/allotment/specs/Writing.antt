@@ -1,4 +1,4 @@
--- What the functions that write the answer area speak of: the seats that two arrays hold, and who came in by merit.
+-- What the functions that write the answer area speak of: the seats that two arrays hold, the types used, and who came in by merit.
 use Prim.Native.Nat.{ℕ, _-_, max}
 use mathlib.Core.Path.{_≡_}
 use mathlib.Core.Bool.{cond}
@@ -12,9 +12,8 @@ use Rattle.round.specs.Reading.{roundOf}
 use Rattle.round.specs.Read.{asHead}
 use Rattle.round.specs.Refusal.{verdict, passes}
 use Rattle.round.specs.Outcome.{MeritStarts}
-use Rattle.offers.specs.Process.{Seat, noSeat, instituteCount, seats}
+use Rattle.offers.specs.Process.{Seat, noSeat, seats, typesUsed}
 use Rattle.offers.specs.Held.{HeldIn}
-use Rattle.offers.specs.Uses.{UsesNoted}
 use Rattle.allotment.specs.Areas.{seatBytes}
 
 -- the seat that two arrays hold for candidate i
@@ -31,23 +30,23 @@ heldBytes holders steps =
     let list : List Seat = seatsHeld holders steps in
     joined (tabulate (length holders) (λ i. seatBytes (getD list i noSeat)))
 
--- the step at which the institute with a number holds candidate i, by three arrays, where it is not for use; else 0
+-- the step at which the institute with a number holds candidate i, by three arrays, where no type is used; else 0
 abbrev pub meritStep : List ℕ → List ℕ → List ℕ → ℕ → ℕ → ℕ
-meritStep holders steps uses institute i =
-    cond (eqb (getD holders i 0) institute) (cond (eqb (getD uses i 0) 0) (getD steps i 0) 0) 0
+meritStep holders steps types institute i =
+    cond (eqb (getD holders i 0) institute) (cond (eqb (getD types i 0) 0) (getD steps i 0) 0) 0
 
 -- the places with the larger of this one and the one that stands for the step with a number from 1; as they were for 0
 abbrev pub withPlace : ℕ → ℕ → List ℕ → List ℕ
 withPlace step place places = cond (eqb step 0) places (set places (step - 1) (max (getD places (step - 1) 0) place))
 
--- an accepted file with its table of merit lists, two arrays that hold the list of its round, and one that notes who is seated for use
-pub record ClosingKnown (file merits holders steps uses : List ℕ) : Type 0 where
+-- an accepted file with its table of merit lists, two arrays that hold the list of its round, and one with the types used
+pub record ClosingKnown (file merits holders steps types : List ℕ) : Type 0 where
   pub accepted : verdict file ≡ passes
   pub table : MeritStarts file merits
   pub list : HeldIn (seats (roundOf file)) holders steps
-  pub noted : UsesNoted (roundOf file) (instituteCount (roundOf file)) holders uses
+  pub typed : types ≡ typesUsed (roundOf file)
 
 -- the same with the head
-pub record AnswerKnown (file : List ℕ) (h : CodeHead) (merits holders steps uses : List ℕ) : Type 0 where
+pub record AnswerKnown (file : List ℕ) (h : CodeHead) (merits holders steps types : List ℕ) : Type 0 where
   pub head : asHead h ≡ headOf file
-  pub closing : ClosingKnown file merits holders steps uses
+  pub closing : ClosingKnown file merits holders steps types

@@ -1,4 +1,4 @@
-// The bytes of the answer area: the seats, then the closing places.
+// The bytes of the answer area: the seats, then the closing places, then the types used.
 use crate::closing::closing_places;
 use round::head::Head;
 ghost use mathlib.Core.Path.{_≡_};
@@ -39,17 +39,17 @@ fn write_institute(
     merits: &[usize],
     holders: &[u8],
     steps: &[u8],
-    uses: &[u8],
+    types: &[u8],
     j: usize,
     area: &mut [u8],
     at: usize,
 )
-    requires { ⌜ ClosingKnown (now file) (now merits) (now holders) (now steps) (now uses) ⌝ }
+    requires { ⌜ ClosingKnown (now file) (now merits) (now holders) (now steps) (now types) ⌝ }
     requires { ⌜ j < headOf (now file) .institutes ⌝ }
     requires { ⌜ at + 12 ≤ length (now area) ⌝ }
     ensures { λ _. ⌜ now (area .exit) ≡ sets (now (area .entry)) at (closingBytes (roundOf (now (file .entry))) j) ⌝ }
 {
-    let places = closing_places(file, merits, holders, steps, uses, j);
+    let places = closing_places(file, merits, holders, steps, types, j);
     for k in 0..6 {
         write_word(area, at + 2 * k, places[k]);
     }
@@ -62,36 +62,47 @@ fn write_closings(
     merits: &[usize],
     holders: &[u8],
     steps: &[u8],
-    uses: &[u8],
+    types: &[u8],
     area: &mut [u8],
     at: usize,
 )
-    requires { ⌜ ClosingKnown (now file) (now merits) (now holders) (now steps) (now uses) ⌝ }
+    requires { ⌜ ClosingKnown (now file) (now merits) (now holders) (now steps) (now types) ⌝ }
     requires { ⌜ institutes ≡ headOf (now file) .institutes ⌝ }
     requires { ⌜ at + 12 * institutes ≤ length (now area) ⌝ }
     ensures { λ _. ⌜ now (area .exit)
         ≡ sets (now (area .entry)) at (joined (tabulate institutes (closingBytes (roundOf (now (file .entry)))))) ⌝ }
 {
     for j in 0..institutes {
-        write_institute(file, merits, holders, steps, uses, j, area, at + 12 * j);
+        write_institute(file, merits, holders, steps, types, j, area, at + 12 * j);
     }
 }
 
-// All that the answer area gets, where the arrays hold the list of the round and who is seated for use.
+// The type of each candidate, from a byte on.
+fn write_types(types: &[u8], area: &mut [u8], at: usize)
+    requires { ⌜ at + length (now types) ≤ length (now area) ⌝ }
+    ensures { λ _. ⌜ now (area .exit) ≡ sets (now (area .entry)) at (now (types .entry)) ⌝ }
+{
+    for i in 0..types.len() {
+        area[at + i] = types[i];
+    }
+}
+
+// All that the answer area gets, where the arrays hold the list of the round and the types used.
 pub fn write_answer(
     file: &[u8],
     h: Head,
     merits: &[usize],
     holders: &[u8],
     steps: &[u8],
-    uses: &[u8],
+    types: &[u8],
     answer: &mut [u8],
 )
-    requires { ⌜ AnswerKnown (now file) h (now merits) (now holders) (now steps) (now uses) ⌝ }
+    requires { ⌜ AnswerKnown (now file) h (now merits) (now holders) (now steps) (now types) ⌝ }
     requires { ⌜ answerSize (roundOf (now file)) ≤ length (now answer) ⌝ }
     ensures { λ _. ⌜ now (answer .exit)
         ≡ answerBytes (roundOf (now (file .entry))) ++ drop (answerSize (roundOf (now (file .entry)))) (now (answer .entry)) ⌝ }
 {
+    let closings = 2 * holders.len();
     write_seats(holders, steps, answer);
     write_closings(
         file,
@@ -99,8 +110,9 @@ pub fn write_answer(
         merits,
         holders,
         steps,
-        uses,
+        types,
         answer,
-        2 * holders.len(),
+        closings,
     );
+    write_types(types, answer, closings + 12 * h.institutes);
 }

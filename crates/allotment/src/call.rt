@@ -2,7 +2,7 @@
 use crate::Answer;
 use crate::areas::write_answer;
 use offers::process::run_offers;
-use offers::uses::note_uses;
+use offers::types::note_types;
 use round::clearing::clear;
 use round::clearing::zeros;
 use round::head::Head;
@@ -34,7 +34,7 @@ fn handed(got: Reading) -> Answer
     }
 }
 
-// The offers of a round and its answer area; two arrays are for the seats, and one for the notes of who is seated for use.
+// The offers of a round and its answer area; two arrays are for the seats, and one for the types used.
 fn seat_all(
     file: &[u8],
     h: Head,
@@ -42,19 +42,19 @@ fn seat_all(
     merits: &[usize],
     holders: &mut [u8],
     steps: &mut [u8],
-    uses: &mut [u8],
+    types: &mut [u8],
     answer: &mut [u8],
 ) -> usize
     requires { ⌜ AtHand (now file) h (now candidates) (now merits) ⌝ }
-    requires { ⌜ (length (now holders) ≡ h .candidates) × (length (now steps) ≡ h .candidates) × (length (now uses) ≡ h .candidates) ⌝ }
+    requires { ⌜ (length (now holders) ≡ h .candidates) × (length (now steps) ≡ h .candidates) × (length (now types) ≡ h .candidates) ⌝ }
     requires { ⌜ answerSize (roundOf (now file)) ≤ length (now answer) ⌝ }
     ensures { λ r. ⌜ (r ≡ offersMade (roundOf (now (file .entry))))
         × (now (answer .exit)
         ≡ answerBytes (roundOf (now (file .entry))) ++ drop (answerSize (roundOf (now (file .entry)))) (now (answer .entry))) ⌝ }
 {
     let offers = run_offers(file, h, candidates, merits, holders, steps);
-    note_uses(file, h, candidates, merits, holders, steps, uses);
-    write_answer(file, h, merits, holders, steps, uses, answer);
+    note_types(file, h, candidates, merits, holders, steps, types);
+    write_answer(file, h, merits, holders, steps, types, answer);
     offers
 }
 
@@ -72,7 +72,7 @@ fn allot_round(
 {
     let n = h.candidates;
     let m = h.institutes;
-    if answer.len() < 2 * n + 12 * m {
+    if answer.len() < 3 * n + 12 * m {
         return Answer::Refused {
             number: 14,
             offset: 0,
@@ -86,7 +86,7 @@ fn allot_round(
     }
     let mut holders = zeros();
     let mut steps = zeros();
-    let mut uses = zeros();
+    let mut types = zeros();
     let offers = seat_all(
         file,
         h,
@@ -94,14 +94,14 @@ fn allot_round(
         merits,
         &mut holders[..n],
         &mut steps[..n],
-        &mut uses[..n],
+        &mut types[..n],
         answer,
     );
     clear(work, 8 * n);
     Answer::Allotted(offers)
 }
 
-// The allotment of a round file: the seats and closing places in the answer area, the first bytes of the work area cleared.
+// The allotment of a round file: the seats, the closing places and the types used in the answer area, the first bytes of the work area cleared.
 pub fn allot(file: &[u8], answer: &mut [u8], work: &mut [u8]) -> Answer
     ensures { λ r. ⌜ Promise (now (file .entry)) (now (answer .entry)) (now (work .entry)) r (now (answer .exit)) (now (work .exit)) ⌝ }
 {

@@ -10,15 +10,15 @@ ghost use Rattle.round.specs.Reading.{roundOf};
 ghost use Rattle.allotment.specs.Areas.{closingPlaces};
 ghost use Rattle.allotment.specs.Writing.{meritStep, withPlace, ClosingKnown};
 
-// The step at which an institute holds a candidate, from 0, whom it did not take for use; else 0.
-fn merit_step(holders: &[u8], steps: &[u8], uses: &[u8], i: usize, institute: usize) -> usize
-    requires { ⌜ (i < length (now holders)) × (i < length (now steps)) × (i < length (now uses)) ⌝ }
-    ensures { λ r. ⌜ r ≡ meritStep (now (holders .entry)) (now (steps .entry)) (now (uses .entry)) institute i ⌝ }
+// The step at which an institute holds a candidate, from 0, under no type; else 0.
+fn merit_step(holders: &[u8], steps: &[u8], types: &[u8], i: usize, institute: usize) -> usize
+    requires { ⌜ (i < length (now holders)) × (i < length (now steps)) × (i < length (now types)) ⌝ }
+    ensures { λ r. ⌜ r ≡ meritStep (now (holders .entry)) (now (steps .entry)) (now (types .entry)) institute i ⌝ }
 {
     if wide(holders[i]) != institute {
         return 0;
     }
-    if uses[i] != 0 {
+    if types[i] != 0 {
         return 0;
     }
     wide(steps[i])
@@ -54,10 +54,10 @@ pub fn closing_places(
     merits: &[usize],
     holders: &[u8],
     steps: &[u8],
-    uses: &[u8],
+    types: &[u8],
     j: usize,
 ) -> [usize; 6]
-    requires { ⌜ ClosingKnown (now file) (now merits) (now holders) (now steps) (now uses) ⌝ }
+    requires { ⌜ ClosingKnown (now file) (now merits) (now holders) (now steps) (now types) ⌝ }
     requires { ⌜ j < headOf (now file) .institutes ⌝ }
     ensures { λ r. ⌜ r ≡ closingPlaces (roundOf (now (file .entry))) j ⌝ }
 {
@@ -65,7 +65,7 @@ pub fn closing_places(
     let mut places = no_places();
     for p in 0..count {
         let number = merit_place(file, merits, j, p);
-        let step = merit_step(holders, steps, uses, number - 1, j + 1);
+        let step = merit_step(holders, steps, types, number - 1, j + 1);
         keep_place(&mut places, step, p + 1);
     }
     places

@@ -109,11 +109,12 @@ fn cut(answering: usize, working: usize)
 }
 
 fn main() {
-    // 2n + 12m = 18 and 8n = 24 for file A
-    file_a(17, 24);
+    // 3n + 12m = 21 and 8n = 24 for file A; 2n + 12m = 18
     file_a(18, 24);
-    file_a(18, 23);
-    file_a(20, 26);
+    file_a(20, 24);
+    file_a(21, 24);
+    file_a(21, 23);
+    file_a(22, 26);
     file_a(24, 32);
     // a refused file
     cut(24, 32);

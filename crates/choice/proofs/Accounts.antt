@@ -1,22 +1,24 @@
--- What the account says of a place: a step takes it by merit just where the choice gives it that step and no step takes it for use.
+-- What the account says of a place: a step takes it by merit just where the choice gives it that step and no step takes it for use; the type
+-- used is that of the step that the choice gives it.
 use Prim.Native.Nat.{ℕ, zero, suc, _+_, _-_, _≤_, _<_}
 use mathlib.Core.Path.{_≡_, refl, sym, _∙_, ap}
-use mathlib.Core.Bool.{Bool, true, false, cond, not, _&&_, _||_}
+use mathlib.Core.Bool.{Bool, true, false, cond, not, _&&_, _||_, true≢false}
 use mathlib.Core.Logic.{_≢_}
 use mathlib.Core.List.{List, [], _∷_}
 use native.Mathlib.Omega.{arith}
-use lib.Dec.{eqb}
+use lib.Dec.{eqb, ltb}
 use lib.ListN.{length, getD, List·getD-eq-default}
-use borrow.Author.Tests.{eqb-true, eq-eqb, ne-eqb}
+use borrow.Author.Tests.{eqb-true, eq-eqb, ne-eqb, lt-ltb}
 use Rattle.round.specs.Round.{StepRule}
 use Rattle.round.specs.Lists.{greatest}
 use Rattle.round.proofs.Words.{and-snd, length-tabulate, tabulate-at}
 use Rattle.choice.specs.Step.{takenByMerit}
 use Rattle.choice.specs.Choice.{Progress, considers, positionsAt, takenAt, advance, advanceAll, nothingDone, choose}
-use Rattle.choice.specs.Account.{StepAccount, tookForUse, tookByMerit, accountOf, accountAt, accountFrom, account, closingPlace, usedIn}
+use Rattle.choice.specs.Account.{StepAccount, tookForUse, tookByMerit, typeUsed, accountOf, accountAt, accountFrom, account, closingPlace, usedIn, typeIn}
 use Rattle.choice.proofs.Counting.{clash, test, sameOr, false-unless, greatest-below}
 use Rattle.choice.proofs.Offers.{Offers}
 use Rattle.choice.proofs.Tabulate.{getD-zeros}
+use Rattle.choice.proofs.Types.{types-some, types-none}
 use Rattle.choice.proofs.Filling.{use-taken, merit-is}
 use Rattle.choice.proofs.Chosen.{taken-considered}
 
@@ -26,6 +28,16 @@ both-taken t e false v a b c = rw (a, b, c)
 
 neither-taken : (t e u v : Bool) → t ≡ false → e ≡ false → (t && u) ≡ (e && v)
 neither-taken t e u v a b = rw (a, b)
+
+-- where no step takes a place for use it has no type
+pub type-none : (steps : List StepAccount) (p : ℕ) → usedIn steps p ≡ false → typeIn steps p ≡ 0
+unfolding usedIn typeIn
+type-none [] p e = refl
+type-none (step ∷ steps) p e = go (tookForUse step p) e (type-none steps p)
+  where
+    go : (b : Bool) → (b || usedIn steps p) ≡ false → (usedIn steps p ≡ false → typeIn steps p ≡ 0) → cond b (typeUsed step p) (typeIn steps p) ≡ 0
+    go true z rest = absurd (true≢false z)
+    go false z rest = rest z
 
 -- at a place
 module _ (marks : List ℕ) (Y : Offers) (p : ℕ) (inside : p < length marks) where
@@ -42,6 +54,15 @@ module _ (marks : List ℕ) (Y : Offers) (p : ℕ) (inside : p < length marks) w
     for-use-taken : tookForUse (accountAt marks Y k rule done) p ≡ true → takenAt marks Y k rule done p ≡ true
     unfolding accountAt takenAt
     for-use-taken t = use-taken (rule .reserved) marks _ _ p (sym (tabulate-at (length marks) _ false p inside) ∙ t)
+
+    -- the step has a type for it just where it takes it for use
+    used-some : tookForUse (accountAt marks Y k rule done) p ≡ true → 0 < typeUsed (accountAt marks Y k rule done) p
+    unfolding accountAt
+    used-some t = types-some (rule .reserved) marks _ p inside (sym (tabulate-at (length marks) _ false p inside) ∙ t)
+
+    used-none : tookForUse (accountAt marks Y k rule done) p ≡ false → typeUsed (accountAt marks Y k rule done) p ≡ 0
+    unfolding accountAt
+    used-none t = types-none (rule .reserved) marks _ p (sym (tabulate-at (length marks) _ false p inside) ∙ t)
 
     by-merit-is : tookByMerit (accountAt marks Y k rule done) p ≡ (takenAt marks Y k rule done p && not (tookForUse (accountAt marks Y k rule done) p))
     unfolding accountAt takenAt
@@ -65,6 +86,13 @@ module _ (marks : List ℕ) (Y : Offers) (p : ℕ) (inside : p < length marks) w
       let same : given (advance marks Y k rule done) ≡ given done = given-next k rule done ∙ rw out in
       let later = kept rules (suc k) (advance marks Y k rule done) (λ z. some (sym same ∙ z)) in
       (later .0 ∙ same, rw (false-unless _ (λ t. clash (for-use-taken k rule done t) out)) (later .1))
+
+  -- whom a step takes for use no later one does
+  pub used-once : (rule : StepRule) (rules : List StepRule) (k : ℕ) (done : Progress) → 0 < k → tookForUse (accountAt marks Y k rule done) p ≡ true
+      → usedIn (accountFrom marks Y (suc k) rules (advance marks Y k rule done)) p ≡ false
+  used-once rule rules k done pos t =
+      let now : given (advance marks Y k rule done) ≡ k = given-next k rule done ∙ rw (for-use-taken k rule done t) in
+      kept rules (suc k) (advance marks Y k rule done) (λ z. omega arith) .1
 
   -- the steps from k on give no smaller number
   comes : (rules : List StepRule) (k m : ℕ) (done : Progress) → m < k → given (advanceAll marks Y k rules done) ≡ m → given done ≡ m
@@ -108,11 +136,60 @@ module _ (marks : List ℕ) (Y : Offers) (p : ℕ) (inside : p < length marks) w
       less true = omega arith
       less false = omega arith
 
+  used-typed : (rules : List StepRule) (k : ℕ) (done : Progress) → usedIn (accountFrom marks Y k rules done) p ≡ ltb 0 (typeIn (accountFrom marks Y k rules done) p)
+  unfolding accountFrom usedIn typeIn
+  used-typed [] k done = refl
+  used-typed (rule ∷ rules) k done =
+      test (tookForUse (accountAt marks Y k rule done) p)
+      (λ t. rw (t, lt-ltb 0 (typeUsed (accountAt marks Y k rule done) p) (used-some k rule done t)))
+      (λ t. rw t (used-typed rules (suc k) (advance marks Y k rule done)))
+
+  type-from : (rules : List StepRule) (k i m : ℕ) (done : Progress) → m ≡ k + i → 0 < k → given done < k → given (advanceAll marks Y k rules done) ≡ m
+      → typeIn (accountFrom marks Y k rules done) p ≡ typeUsed (accountOf (accountFrom marks Y k rules done) (suc i)) p
+  unfolding advanceAll accountFrom typeIn
+  type-from [] k i m done e pos low at = absurd (omega arith)
+  type-from (rule ∷ rules) k zero m done e pos low at =
+      let next = advance marks Y k rule done in
+      test (tookForUse (accountAt marks Y k rule done) p)
+      (λ u. rw u)
+      (λ u.
+      test (takenAt marks Y k rule done p)
+      (λ t.
+      let now : given next ≡ k = given-next k rule done ∙ rw t in
+      let later = kept rules (suc k) next (λ z. omega arith) in
+      rw u (type-none (accountFrom marks Y (suc k) rules next) p (later .1) ∙ sym (used-none k rule done u)))
+      (λ t.
+      let same : given next ≡ given done = given-next k rule done ∙ rw t in
+      absurd (omega (arith, comes rules (suc k) m next (omega arith) at))))
+  type-from (rule ∷ rules) k (suc i) m done e pos low at =
+      let next = advance marks Y k rule done in
+      let there : suc (suc i) - 1 ≡ suc (suc i - 1) = omega arith in
+      test (tookForUse (accountAt marks Y k rule done) p)
+      (λ u.
+      let now : given next ≡ k = given-next k rule done ∙ rw (for-use-taken k rule done u) in
+      absurd (omega (arith, kept rules (suc k) next (λ z. omega arith) .0)))
+      (λ u. rw (there, u) (type-from rules (suc k) i m next (omega arith) (omega arith) (rw (given-next k rule done) (less (takenAt marks Y k rule done p))) at))
+    where
+      less : (b : Bool) → cond b k (given done) < suc k
+      less true = omega arith
+      less false = omega arith
+
 -- the choice gives place p step k, and no step takes it for use: step k takes it by merit
 pub merit-of : (marks : List ℕ) (Y : Offers) (rules : List StepRule) (p k : ℕ) → p < length marks
     → tookByMerit (accountOf (account marks Y rules) (suc k)) p ≡ (eqb (getD (choose marks Y rules) p 0) (suc k) && not (usedIn (account marks Y rules) p))
 unfolding account choose nothingDone
 merit-of marks Y rules p k l = merit-from marks Y p l rules 1 k (suc k) (nothingDone marks Y) (omega arith) (omega arith) (omega (arith, getD-zeros (length marks) p))
+
+-- a place is taken for use just where it has a type
+pub used-type : (marks : List ℕ) (Y : Offers) (rules : List StepRule) (p : ℕ) → p < length marks → usedIn (account marks Y rules) p ≡ ltb 0 (typeIn (account marks Y rules) p)
+unfolding account
+used-type marks Y rules p l = used-typed marks Y p l rules 1 (nothingDone marks Y)
+
+-- the type of a place is the one that its step used
+pub type-of : (marks : List ℕ) (Y : Offers) (rules : List StepRule) (p k : ℕ) → p < length marks → getD (choose marks Y rules) p 0 ≡ suc k
+    → typeIn (account marks Y rules) p ≡ typeUsed (accountOf (account marks Y rules) (suc k)) p
+unfolding account choose nothingDone
+type-of marks Y rules p k l e = type-from marks Y p l rules 1 k (suc k) (nothingDone marks Y) (omega arith) (omega arith) (omega (arith, getD-zeros (length marks) p)) e
 
 merits-long : (marks : List ℕ) (Y : Offers) (rules : List StepRule) (k i : ℕ) (done : Progress) → length (accountOf (accountFrom marks Y k rules done) (suc i) .byMerit) ≤ length marks
 unfolding accountFrom accountAt

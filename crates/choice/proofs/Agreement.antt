@@ -15,9 +15,11 @@ use Rattle.round.specs.Lists.{tabulate, sum}
 use Rattle.round.proofs.Words.{and-fst, and-snd, tabulate-at}
 use Rattle.choice.specs.Step.{takenForUse, takenByMerit}
 use Rattle.choice.specs.Choice.{Progress, considers, positionsAt, takenAt, vacantAt, advance, advanceAll, nothingDone, choose}
+use Rattle.choice.specs.FirstPlacing.{typesOf}
 use Rattle.choice.specs.Account.{StepAccount, accountAt, accountFrom, account}
 use Rattle.choice.proofs.Counting.{clash, false-unless, count-ext}
 use Rattle.choice.proofs.Tabulate.{tabulate-cong}
+use Rattle.choice.proofs.Types.{types-cong}
 use Rattle.choice.proofs.Sets.{left-if-out}
 use Rattle.choice.proofs.Filling.{TakesForUse, irrelevant, taken-within, taken-irrelevant, use-taken, merit-is}
 use Rattle.choice.proofs.Completion.{Lawful, progress-below, Completing, positionsIn, takenIn, vacantIn, complete, completeAll, allLeft, completion, left-before, completion-within}
@@ -51,6 +53,7 @@ module _ (marks : List ℕ) where
     positions = positionsIn marks k rule now;
     forUse = tabulate (length marks) (takenForUse (rule .reserved) marks (λ p. now .left p (rule .category)));
     byMerit = tabulate (length marks) (takenByMerit (rule .reserved) marks (λ p. now .left p (rule .category)) (positionsIn marks k rule now));
+    types = typesOf (rule .reserved) marks (takenForUse (rule .reserved) marks (λ p. now .left p (rule .category)));
     vacant = vacantIn marks k rule now;
   }
 
@@ -130,8 +133,9 @@ module _ (marks : List ℕ) (taking : TakesForUse marks)
     step-account =
         let for-use = tabulate-cong (length marks) _ _ use-same in
         let by-merit = tabulate-cong (length marks) _ _ merit-same in
+        let types-same = types-cong (rule .reserved) marks _ _ use-same in
         let number = count-ext (length marks) (takenAt marks Y k rule (now .done)) (takenIn marks k rule now) step-same in
-        λ i. record { positions = rule .own + now .done .handed k; forUse = for-use i; byMerit = by-merit i; vacant = rule .own + now .done .handed k - number i }
+        λ i. record { positions = rule .own + now .done .handed k; forUse = for-use i; byMerit = by-merit i; types = types-same i; vacant = rule .own + now .done .handed k - number i }
 
     step-done : advance marks Y k rule (now .done) ≡ complete marks k rule now .done
     unfolding advance vacantAt positionsAt positionsIn complete

@@ -16,13 +16,15 @@ use Rattle.round.specs.Category.{codeOf, categoryOf}
 use Rattle.round.specs.Lists.{tabulate, tabulateFrom}
 use Rattle.round.specs.Rules.{numberIn, ruleIn, rulesIn, RuleTable}
 use Rattle.round.proofs.Words.{length-tabulate, tabulate-at, cleared}
+use Rattle.choice.specs.Step.{takenForUse}
 use Rattle.choice.specs.Choice.{Progress, considers, positionsAt, takenAt, vacantAt, advance, advanceAll, nothingDone, choose}
-use Rattle.choice.specs.Account.{tookForUse, accountAt, accountFrom, account, usedIn, usesIn}
+use Rattle.choice.specs.Account.{StepAccount, tookForUse, typeUsed, accountAt, accountFrom, account, usedIn, typeIn, typesIn}
 use Rattle.choice.specs.Offers.{offeredBy, considersBy, Places}
-use Rattle.choice.specs.Fill.{stepGiven, stepVacant, stepUses}
-use Rattle.choice.specs.Handed.{doneBy, usesWith, Handing}
+use Rattle.choice.specs.Fill.{stepGiven, stepVacant, stepTypes}
+use Rattle.choice.specs.Handed.{doneBy, typesWith, Handing}
 use Rattle.choice.proofs.Counting.{sameOr}
 use Rattle.choice.proofs.Tabulate.{tabulate-cong, getD-zeros}
+use Rattle.choice.proofs.Accounts.{type-none, used-once}
 
 code-back : (code : ℕ) → code < 5 → codeOf (categoryOf code) ≡ code
 code-back zero l = refl
@@ -123,20 +125,21 @@ module _ {types k : ℕ} {rules handed : List ℕ} (t : RuleTable types (suc k) 
       at-most false = omega arith
 
   -- a step of the code is a step of the definition
-  pub step-advances : (marks offers given uses : List ℕ) {given' uses' : List ℕ} {vacant : ℕ}
+  pub step-advances : (first : Bool) (marks offers given used : List ℕ) {given' used' : List ℕ} {vacant : ℕ}
       → (given' ≡ stepGiven (k + 1) (take (at + 3 + types - (at + 3)) (drop (at + 3) rules)) marks (considersBy offers given (getD rules at 0)) positions given)
       × (vacant ≡ stepVacant (take (at + 3 + types - (at + 3)) (drop (at + 3) rules)) marks (considersBy offers given (getD rules at 0)) positions)
-      × (uses' ≡ stepUses (take (at + 3 + types - (at + 3)) (drop (at + 3) rules)) marks (considersBy offers given (getD rules at 0)) uses)
+      × (first ≡ true → used' ≡ stepTypes (take (at + 3 + types - (at + 3)) (drop (at + 3) rules)) marks (considersBy offers given (getD rules at 0)) used)
       → (doneBy given' (handing-on vacant) ≡ advance marks (offeredBy offers) (suc k) (ruleIn types rules k) (doneBy given handed)) × Handing (suc k) (handing-on vacant)
-      × (uses' ≡ usesWith (length marks) (accountAt marks (offeredBy offers) (suc k) (ruleIn types rules k) (doneBy given handed)) uses)
+      × (first ≡ true → used' ≡ typesWith (length marks) (accountAt marks (offeredBy offers) (suc k) (ruleIn types rules k) (doneBy given handed)) used)
   unfolding advance vacantAt takenAt positionsAt considers ruleIn accountAt
-  step-advances marks offers given uses {given'} {uses'} {vacant} s = (
+  step-advances first marks offers given used {given'} {used'} {vacant} s = (
     done-same (advance marks (offeredBy offers) (suc k) (ruleIn types rules k) (doneBy given handed)) given' (handing-on vacant)
         (rw (reserved, coded, add-one) at (s .0))
         (λ j. handed-grows handed (getD rules (at + 1) 0) vacant receiver-low j ∙ rw (rw (reserved, coded, add-one) at (s .1))),
     still-low vacant (omega (arith, s .1)),
-    rw (reserved, coded) at (s .2)
-        ∙ tabulate-cong (length marks) _ _ (λ p l. ap (λ (b : Bool). cond b 1 (getD uses p 0)) (sym (tabulate-at (length marks) _ false p l))),
+    λ t.
+        rw (reserved, coded) at (s .2 t)
+        ∙ tabulate-cong (length marks) _ _ (λ p l. rw (tabulate-at (length marks) (takenForUse (ruleIn types rules k .reserved) marks (considersBy offers given (codeOf (categoryOf (numberIn types rules k 0))))) false p l)),
   )
     where
       coded : getD rules at 0 ≡ codeOf (categoryOf (numberIn types rules k 0))
@@ -145,32 +148,40 @@ module _ {types k : ℕ} {rules handed : List ℕ} (t : RuleTable types (suc k) 
       reserved : take (at + 3 + types - (at + 3)) (drop (at + 3) rules) ≡ tabulate types (λ t. numberIn types rules k (3 + t))
       reserved = let n : at + 3 + types - (at + 3) ≡ types = omega arith in rw n (reserved-part types k rules t)
 
--- after k steps the rest of the rules leads to what all of them lead to from nothing done, and takes for use whom all of them do who are not
--- noted yet
-pub record Stepping (marks offers rules : List ℕ) (types count k : ℕ) (steps uses handed : List ℕ) : Type 0 where
-  pub places : Places marks offers steps uses
+-- the type of a place after these steps, where it was u before them
+abbrev typeAfter : List StepAccount → ℕ → ℕ → ℕ
+typeAfter steps p u = cond (usedIn steps p) (typeIn steps p) u
+
+-- after k steps the rest of the rules leads to what all of them lead to from nothing done, and uses the types that all of them do but for those
+-- used so far
+pub record Stepping (marks offers rules : List ℕ) (types count : ℕ) (first : Bool) (k : ℕ) (steps used handed : List ℕ) : Type 0 where
+  pub places : Places marks offers steps used
   pub handing : Handing k handed
   pub rest : advanceAll marks (offeredBy offers) (suc k) (tabulateFrom k (count - k) (ruleIn types rules)) (doneBy steps handed)
       ≡ advanceAll marks (offeredBy offers) 1 (rulesIn types count rules) (nothingDone marks (offeredBy offers))
-  pub rest-used : (p : ℕ) → p < length marks
-      → cond (usedIn (accountFrom marks (offeredBy offers) (suc k) (tabulateFrom k (count - k) (ruleIn types rules)) (doneBy steps handed)) p) 1 (getD uses p 0)
-      ≡ cond (usedIn (account marks (offeredBy offers) (rulesIn types count rules)) p) 1 0
+  pub rest-typed : first ≡ true → (p : ℕ) → p < length marks
+      → typeAfter (accountFrom marks (offeredBy offers) (suc k) (tabulateFrom k (count - k) (ruleIn types rules)) (doneBy steps handed)) p (getD used p 0)
+      ≡ typeIn (account marks (offeredBy offers) (rulesIn types count rules)) p
 
-same-places : {marks offers steps steps' uses uses' : List ℕ} → Places marks offers steps uses → length steps' ≡ length steps → length uses' ≡ length uses → Places marks offers steps' uses'
-same-places p len long = record { few = p .few; offers-each = p .offers-each; steps-each = len ∙ p .steps-each; uses-each = long ∙ p .uses-each }
+same-places : {marks offers steps steps' used used' : List ℕ} → Places marks offers steps used → length steps' ≡ length steps → length used' ≡ length used → Places marks offers steps' used'
+same-places p len long = record { few = p .few; offers-each = p .offers-each; steps-each = len ∙ p .steps-each; used-each = long ∙ p .used-each }
 
--- a place that is noted, or is taken for use now or later
-noted-on : (b later : Bool) (u : ℕ) → cond later 1 (cond b 1 u) ≡ cond (b || later) 1 u
-noted-on true true u = refl
-noted-on true false u = refl
-noted-on false later u = refl
+-- whom a step takes for use no later one does
+typed-on : (b later : Bool) (u now then : ℕ) → (b ≡ true → later ≡ false) → cond later then (cond b now u) ≡ cond (b || later) (cond b now then) u
+typed-on true later u now then once = rw (once refl)
+typed-on false later u now then once = refl
 
-module _ {marks offers rules : List ℕ} {types count : ℕ} where
-  pub set-out : {steps₀ steps uses₀ uses handed : List ℕ} → Places marks offers steps₀ uses₀ → steps ≡ replicate (length marks) 0 ++ drop (length marks) steps₀ → length steps ≡ length steps₀
-      → uses ≡ replicate (length marks) 0 ++ drop (length marks) uses₀ → length uses ≡ length uses₀
-      → handed ≡ replicate 13 0 → Stepping marks offers rules types count 0 steps uses handed
+typed-none : (used : Bool) (x : ℕ) → (used ≡ false → x ≡ 0) → cond used x 0 ≡ x
+typed-none true x none = refl
+typed-none false x none = sym (none refl)
+
+module _ {marks offers rules : List ℕ} {types count : ℕ} {first : Bool} where
+  pub set-out : {steps₀ steps used₀ used handed : List ℕ} → Places marks offers steps₀ used₀ → steps ≡ replicate (length marks) 0 ++ drop (length marks) steps₀ → length steps ≡ length steps₀
+      → used ≡ replicate (length marks) 0 ++ drop (length marks) used₀ → length used ≡ length used₀
+      → handed ≡ replicate 13 0 → Stepping marks offers rules types count first 0 steps used handed
   unfolding nothingDone account
-  set-out {steps₀} {steps} {uses₀} {uses} {handed} places clear len wipe long eh =
+  set-out {steps₀} {steps} {used₀} {used} {handed} places clear len wipe long eh =
+      let whole = account marks (offeredBy offers) (rulesIn types count rules) in
       let all : count - 0 ≡ count = omega arith in
       let start : doneBy steps handed ≡ nothingDone marks (offeredBy offers) =
       done-same (nothingDone marks (offeredBy offers)) steps handed (cleared _ _ _ clear (len ∙ places .steps-each)) (λ j. rw eh (getD-zeros 13 j)) in
@@ -178,15 +189,17 @@ module _ {marks offers rules : List ℕ} {types count : ℕ} where
         places = same-places places len long;
         handing = record { sized = ap length eh; low = λ j. rw (eh, getD-zeros 13 j) (omega arith) };
         rest = rw (all, start);
-        rest-used = λ p l. rw (all, start, cleared _ _ _ wipe (long ∙ places .uses-each), getD-zeros (length marks) p);
+        rest-typed = λ f p l.
+            rw (all, start, cleared _ _ _ wipe (long ∙ places .used-each), getD-zeros (length marks) p)
+            (typed-none (usedIn whole p) (typeIn whole p) (type-none whole p));
       }
 
-  pub go-on : {k : ℕ} {steps uses handed steps' uses' handed' : List ℕ} → k < count → Stepping marks offers rules types count k steps uses handed → length steps' ≡ length steps → length uses' ≡ length uses
+  pub go-on : {k : ℕ} {steps used handed steps' used' handed' : List ℕ} → k < count → Stepping marks offers rules types count first k steps used handed → length steps' ≡ length steps → length used' ≡ length used
       → (doneBy steps' handed' ≡ advance marks (offeredBy offers) (suc k) (ruleIn types rules k) (doneBy steps handed)) × Handing (suc k) handed'
-      × (uses' ≡ usesWith (length marks) (accountAt marks (offeredBy offers) (suc k) (ruleIn types rules k) (doneBy steps handed)) uses)
-      → Stepping marks offers rules types count (k + 1) steps' uses' handed'
-  unfolding advanceAll accountFrom usedIn
-  go-on {k} {steps} {uses} {handed} l g len long s =
+      × (first ≡ true → used' ≡ typesWith (length marks) (accountAt marks (offeredBy offers) (suc k) (ruleIn types rules k) (doneBy steps handed)) used)
+      → Stepping marks offers rules types count first (k + 1) steps' used' handed'
+  unfolding advanceAll accountFrom usedIn typeIn
+  go-on {k} {steps} {used} {handed} l g len long s =
       let more : count - k ≡ suc (count - suc k) = omega arith in
       let rule = ruleIn types rules k in
       let step = accountAt marks (offeredBy offers) (suc k) rule (doneBy steps handed) in
@@ -196,20 +209,23 @@ module _ {marks offers rules : List ℕ} {types count : ℕ} where
         places = same-places (g .places) len long;
         handing = s .1;
         rest = rw (s .0) (rw more at (g .rest));
-        rest-used = λ p l.
-            rw (s .0, s .2, tabulate-at (length marks) (λ q. cond (tookForUse step q) 1 (getD uses q 0)) 0 p l)
-            (noted-on (tookForUse step p) (usedIn later p) (getD uses p 0) ∙ (rw more at (g .rest-used p l)));
+        rest-typed = λ f p l.
+            rw (s .0, s .2 f, tabulate-at (length marks) (λ q. cond (tookForUse step q) (typeUsed step q) (getD used q 0)) 0 p l)
+            (typed-on (tookForUse step p) (usedIn later p) (getD used p 0) (typeUsed step p) (typeIn later p)
+            (used-once marks (offeredBy offers) p l rule (tabulateFrom (suc k) (count - suc k) (ruleIn types rules)) (suc k) (doneBy steps handed) (omega arith))
+            ∙ (rw more at (g .rest-typed f p l)));
       }
 
-  pub arrive : {k : ℕ} {steps uses handed : List ℕ} → count ≤ k → Stepping marks offers rules types count k steps uses handed
+  pub arrive : {k : ℕ} {steps used handed : List ℕ} → count ≤ k → Stepping marks offers rules types count first k steps used handed
       → (steps ≡ choose marks (offeredBy offers) (rulesIn types count rules))
-      × (uses ≡ usesIn (length marks) (account marks (offeredBy offers) (rulesIn types count rules)))
-  unfolding choose advanceAll accountFrom usedIn usesIn
+      × (first ≡ true → used ≡ typesIn (length marks) (account marks (offeredBy offers) (rulesIn types count rules)))
+  unfolding choose advanceAll accountFrom usedIn typesIn
   arrive {k} l g =
       let none : count - k ≡ 0 = omega arith in (
         ap (λ (done : Progress). done .given) (rw none at (g .rest)),
-        ext-getD 0 _ _ (g .places .uses-each ∙ sym (length-tabulate 0 (length marks) _))
+        λ f.
+            ext-getD 0 _ _ (g .places .used-each ∙ sym (length-tabulate 0 (length marks) _))
             (λ p l.
-            let inside : p < length marks = omega (arith, g .places .uses-each) in
-            (rw none at (g .rest-used p inside)) ∙ sym (tabulate-at (length marks) _ 0 p inside)),
+            let inside : p < length marks = omega (arith, g .places .used-each) in
+            (rw none at (g .rest-typed f p inside)) ∙ sym (tabulate-at (length marks) _ 0 p inside)),
       )

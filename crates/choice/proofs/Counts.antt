@@ -1,12 +1,12 @@
 -- Counts of the numbers below n that pass a test: one more number, tests that agree but at one number, fewer numbers.
-use Prim.Native.Nat.{ℕ, zero, suc, _+_, _≤_}
+use Prim.Native.Nat.{ℕ, zero, suc, _+_, _≤_, _<_}
 use mathlib.Core.Path.{_≡_, refl, ap}
 use mathlib.Core.Bool.{Bool, true, false}
 use native.Mathlib.Omega.{arith}
 use native.Mathlib.Numerals.{add-one}
 use lib.Dec.{eqb, ltb}
 use Rattle.round.specs.Lists.{bit, count}
-use Rattle.choice.proofs.Counting.{bit-false, count-ext}
+use Rattle.choice.proofs.Counting.{below, bit-false, bit-max, bit-pass, count-ext}
 use borrow.Author.Tests.{eqb-true, eqb-false, ltb-true, ltb-false}
 
 -- one number more, tested
@@ -42,3 +42,15 @@ count-rest k (suc n) X h = go (ltb n k) refl (count-rest k n X h)
     go : (b : Bool) → ltb n k ≡ b → count n X ≤ count k X → count (suc n) X ≤ count k X
     go true e _ = count-within (suc n) k X (omega (arith, ltb-true n k e))
     go false e rest = omega (arith, bit-false (X n) (h n (ltb-false n k e)))
+
+pub count-most : (n : ℕ) (X : ℕ → Bool) → count n X ≤ n
+count-most zero X = omega arith
+count-most (suc n) X = omega (arith, bit-max (X n), count-most n X)
+
+-- all of the numbers pass the test
+pub count-full : (n : ℕ) (X : ℕ → Bool) → count n X ≡ n → (i : ℕ) → i < n → X i ≡ true
+count-full zero X e i l = absurd (omega arith)
+count-full (suc n) X e i l =
+    below i n l
+    (λ less. count-full n X (omega (arith, bit-max (X n), count-most n X)) i less)
+    (λ same. rw same (bit-pass (X n) (omega (arith, count-most n X))))

@@ -107,6 +107,7 @@ module _ (reserved marks : List ℕ) (X : ℕ → Bool) where
   -- the end of the list is reached
   pub bottom : {placed exhausted : List ℕ} {more : Bool} {n p : ℕ} → Down reserved marks X placed exhausted more n p → p ≡ length marks → Took reserved marks placed X n
   bottom d end = record {
+    placing = d .placing;
     each = λ q l. d .each q (omega arith);
     number = d .number ∙ ap (λ (k : ℕ). count k H) end;
   }

@@ -4,29 +4,21 @@ use mathlib.Core.Path.{_≡_, refl, sym, _∙_}
 use mathlib.Core.Bool.{Bool, true, false}
 use mathlib.Core.List.{List, [], _∷_}
 use native.Mathlib.Omega.{arith}
-use lib.Dec.{ltb}
 use lib.ListN.{length, getD}
-use borrow.Author.Tests.{ltb-true, ltb-false}
 use Rattle.round.specs.declared.entry.Category.{Category}
 use Rattle.round.specs.Round.{StepRule}
 use Rattle.round.specs.Lists.{count}
 use Rattle.round.proofs.Words.{tabulate-at}
 use Rattle.choice.specs.Step.{takenBefore, takenForUse, remaining, takenByMerit, taken}
+use Rattle.choice.specs.FirstPlacing.{typesOf}
 use Rattle.choice.specs.Choice.{Progress, considers, positionsAt, takenAt, vacantAt, advance, advanceAll, nothingDone, choose}
-use Rattle.choice.specs.Account.{tookForUse, accountAt, accountFrom, account, usedIn}
-use Rattle.choice.specs.Gathers.{Gathers}
-use Rattle.choice.proofs.Counting.{test, bit-true}
+use Rattle.choice.specs.Account.{tookForUse, typeUsed, accountAt, accountFrom, account, typeIn}
+use Rattle.choice.specs.Gathers.{Gathers, gathered}
+use Rattle.choice.proofs.Counting.{test}
 use Rattle.choice.proofs.Offers.{Offers}
 use Rattle.choice.proofs.Tabulate.{getD-zeros}
-
--- more places, no fewer of the set
-pub count-more : (X : ℕ → Bool) (a b : ℕ) → a ≤ b → count a X ≤ count b X
-count-more X a zero l = let e : a ≡ 0 = omega arith in rw e (omega arith)
-count-more X a (suc b) l = test (ltb a (suc b)) (λ e. omega (arith, ltb-true, count-more X a b (omega (arith, ltb-true)))) (λ e. let z : a ≡ suc b = omega (arith, ltb-false) in rw z (omega arith))
-
--- a place of the set has a number below the number of those before n
-pub number-below : (X : ℕ → Bool) (p n : ℕ) → p < n → X p ≡ true → count p X < count n X
-number-below X p n l x = omega (arith, bit-true (X p) x, count-more X (suc p) n (omega arith))
+use Rattle.choice.proofs.Gathered.{number-below}
+use Rattle.choice.proofs.Types.{types-at}
 
 -- X' says of the gathered what X says of the places below n, and nothing else is in X
 pub record SameAmong (G : ℕ → Bool) (n : ℕ) (X X' : ℕ → Bool) : Type 0 where
@@ -47,6 +39,16 @@ module _ (G : ℕ → Bool) (n : ℕ) where
       (λ g. rw (next-in p g, s .inside p (omega arith) g, same-count X X' s p (omega arith)))
       (λ g. rw (next-out p g, s .outside p (omega arith) g, same-count X X' s p (omega arith)) (omega arith))
 
+  -- the gathered of a set are those of the whole
+  module _ (f f' : ℕ → ℕ) (kept : (p : ℕ) → p < n → G p ≡ true → f' (count p G) ≡ f p) where
+    gathered-among : (X X' : ℕ → Bool) → SameAmong G n X X' → (p : ℕ) → p ≤ n → gathered X' (count p G) f' ≡ gathered X p f
+    unfolding gathered
+    gathered-among X X' s zero l = refl
+    gathered-among X X' s (suc p) l =
+        test (G p)
+        (λ g. rw (next-in p g, s .inside p (omega arith) g, kept p (omega arith) g, gathered-among X X' s p (omega arith)))
+        (λ g. rw (next-out p g, s .outside p (omega arith) g) (gathered-among X X' s p (omega arith)))
+
   module _ (marks marks' : List ℕ) (whole : length marks ≡ n) (few : length marks' ≡ count n G) (gathers : Gathers G n (λ p. getD marks p 0) marks') (reserved : List ℕ) (X X' : ℕ → Bool) (s : SameAmong G n X X') where
     same-before : (p : ℕ) → p ≤ n → takenBefore reserved marks' X' (count p G) ≡ takenBefore reserved marks X p
     unfolding takenBefore
@@ -62,6 +64,15 @@ module _ (G : ℕ → Bool) (n : ℕ) where
       inside = λ p l g. rw (s .inside p l g, gathers p l g, same-before p (omega arith));
       outside = λ p l g. rw (s .outside p l g);
     }
+
+    -- the types are the same
+    same-types : (p : ℕ) → p < n → G p ≡ true → getD (typesOf reserved marks' (takenForUse reserved marks' X')) (count p G) 0 ≡ getD (typesOf reserved marks (takenForUse reserved marks X)) p 0
+    same-types p l g =
+        let H = takenForUse reserved marks X in
+        let H' = takenForUse reserved marks' X' in
+        let lists : gathered H' (length marks') (λ q. getD marks' q 0) ≡ gathered H (length marks) (λ p. getD marks p 0) = rw (few, whole) (gathered-among (λ p. getD marks p 0) (λ q. getD marks' q 0) gathers H H' same-use n (omega arith)) in
+        types-at reserved marks' H' (count p G) (omega (arith, few, number-below G p n l g))
+        ∙ rw (same-use .inside p l g, lists, same-count H H' same-use p (omega arith)) (sym (types-at reserved marks H p (omega (arith, whole))))
 
     same-remaining : SameAmong G n (remaining reserved marks X) (remaining reserved marks' X')
     unfolding remaining
@@ -159,18 +170,23 @@ module _ (G : ℕ → Bool) (n : ℕ) (marks marks' : List ℕ) (whole : length 
         outside = λ p l g. tabulate-at (length marks) _ false p (omega (arith, whole)) ∙ s .outside p l g;
       }
 
-  same-used : (rules : List StepRule) (k : ℕ) (done done' : Progress) → AlikeAmong G n done done' → SameAmong G n (usedIn (accountFrom marks Y k rules done)) (usedIn (accountFrom marks' Y' k rules done'))
-  unfolding accountFrom usedIn
-  same-used [] k done done' a = record { inside = λ p l g. refl; outside = λ p l g. refl }
-  same-used (rule ∷ rules) k done done' a =
-      let now = same-used-at k rule done done' a in
-      let later = same-used rules (suc k) _ _ (same-advance k rule done done' a) in
-      record {
-        inside = λ p l g. rw (now .inside p l g, later .inside p l g);
-        outside = λ p l g. rw (now .outside p l g, later .outside p l g);
-      }
+  same-typed-at : (k : ℕ) (rule : StepRule) (done done' : Progress) → AlikeAmong G n done done' → (p : ℕ) → p < n → G p ≡ true
+      → typeUsed (accountAt marks' Y' k rule done') (count p G) ≡ typeUsed (accountAt marks Y k rule done) p
+  unfolding accountAt
+  same-typed-at k rule done done' a = same-types G n marks marks' whole few gathers (rule .reserved) _ _ (same-considered rule done done' a)
 
-  -- and is taken for use where it is taken for use among the gathered
-  pub used-gathered : (rules : List StepRule) (p : ℕ) → p < n → G p ≡ true → usedIn (account marks Y rules) p ≡ usedIn (account marks' Y' rules) (count p G)
+  same-typed : (rules : List StepRule) (k : ℕ) (done done' : Progress) → AlikeAmong G n done done' → (p : ℕ) → p < n → G p ≡ true
+      → typeIn (accountFrom marks' Y' k rules done') (count p G) ≡ typeIn (accountFrom marks Y k rules done) p
+  unfolding accountFrom typeIn
+  same-typed [] k done done' a p l g = refl
+  same-typed (rule ∷ rules) k done done' a p l g =
+      rw (
+        same-used-at k rule done done' a .inside p l g,
+        same-typed-at k rule done done' a p l g,
+        same-typed rules (suc k) _ _ (same-advance k rule done done' a) p l g,
+      )
+
+  -- and has the type that it has among the gathered
+  pub type-gathered : (rules : List StepRule) (p : ℕ) → p < n → G p ≡ true → typeIn (account marks Y rules) p ≡ typeIn (account marks' Y' rules) (count p G)
   unfolding account
-  used-gathered rules p l g = sym (same-used rules 1 _ _ same-start .inside p l g)
+  type-gathered rules p l g = sym (same-typed rules 1 _ _ same-start p l g)

@@ -20,37 +20,37 @@ abbrev pub seated : ℕ → ℕ → ℕ → List ℕ → List ℕ → List ℕ �
 seated number code free offers placed given q =
     cond (seatsAt placed (considersBy offers given code) free q) number (getD given q 0)
 
--- what its note of use is after the step
-abbrev pub noted : List ℕ → List ℕ → ℕ → ℕ
-noted placed noted₀ q = cond (typedAt placed q) 1 (getD noted₀ q 0)
+-- the type used there after the step
+abbrev pub typeAfter : List ℕ → List ℕ → ℕ → ℕ
+typeAfter placed used₀ q = cond (typedAt placed q) (getD placed q 0) (getD used₀ q 0)
 
--- the places below p hold what they hold after the step, and so do their notes; of the rest below p as many got it as positions are free
-pub record Filled (number code free : ℕ) (offers placed given uses₀ steps uses : List ℕ) (filled p : ℕ) : Type 0 where
+-- the places below p hold what they hold after the step, steps and types; of the rest below p as many got it as positions are free
+pub record Filled (number code free : ℕ) (offers placed given used₀ steps used : List ℕ) (filled p : ℕ) : Type 0 where
   pub number-filled : filled ≡ min free (count p (restAt placed (considersBy offers given code)))
   pub written : Written given steps (seated number code free offers placed given) p
-  pub uses-written : Written uses₀ uses (noted placed uses₀) p
+  pub used-written : Written used₀ used (typeAfter placed used₀) p
 
-module _ (number code free : ℕ) (offers placed given uses₀ : List ℕ) where
+module _ (number code free : ℕ) (offers placed given used₀ : List ℕ) where
   abbrev X : ℕ → Bool
   X = considersBy offers given code
 
   abbrev rest : ℕ → Bool
   rest = restAt placed X
 
-  pub none-filled : Filled number code free offers placed given uses₀ given uses₀ 0 0
-  none-filled = record { number-filled = omega arith; written = begin given _; uses-written = begin uses₀ _ }
+  pub none-filled : Filled number code free offers placed given used₀ given used₀ 0 0
+  none-filled = record { number-filled = omega arith; written = begin given _; used-written = begin used₀ _ }
 
-  pub all-filled : {steps uses : List ℕ} {filled p : ℕ} → length uses₀ ≡ length given → Filled number code free offers placed given uses₀ steps uses filled p → p ≡ length given
+  pub all-filled : {steps used : List ℕ} {filled p : ℕ} → length used₀ ≡ length given → Filled number code free offers placed given used₀ steps used filled p → p ≡ length given
       → (steps ≡ tabulate (length given) (seated number code free offers placed given)) × (filled ≡ min free (count (length given) rest))
-      × (uses ≡ tabulate (length given) (noted placed uses₀))
+      × (used ≡ tabulate (length given) (typeAfter placed used₀))
   all-filled {p = p} each k end = (
     tabulated given _ _ p (k .written) (omega arith),
     k .number-filled ∙ ap (λ (n : ℕ). min free (count n rest)) end,
-    rw each at (tabulated uses₀ _ _ p (k .uses-written) (omega arith)),
+    rw each at (tabulated used₀ _ _ p (k .used-written) (omega arith)),
   )
 
-  module _ (steps uses : List ℕ) (filled p : ℕ) (each : length uses₀ ≡ length given) (inside : p < length given)
-      (k : Filled number code free offers placed given uses₀ steps uses filled p) where
+  module _ (steps used : List ℕ) (filled p : ℕ) (each : length used₀ ≡ length given) (inside : p < length given)
+      (k : Filled number code free offers placed given used₀ steps used filled p) where
     one-more : (b : ℕ) → bit (rest p) ≡ b → count p rest + b ≡ count (p + 1) rest
     one-more b e = count-more rest p (count p rest) b refl e
 
@@ -59,8 +59,8 @@ module _ (number code free : ℕ) (offers placed given uses₀ : List ℕ) where
     considered = ap (λ (x : ℕ). holds (getD offers p 0) code && eqb x 0) (k .written .above p (omega arith))
 
     -- it has a type
-    pub by-type : {l u : List ℕ} {v : ℕ} → (getD placed p 0 ≡ 0 → ⊥) → l ≡ set steps p number → u ≡ set uses p 1 → v ≡ filled
-        → Filled number code free offers placed given uses₀ l u v (p + 1)
+    pub by-type : {l u : List ℕ} {v : ℕ} → (getD placed p 0 ≡ 0 → ⊥) → l ≡ set steps p number → u ≡ set used p (getD placed p 0) → v ≡ filled
+        → Filled number code free offers placed given used₀ l u v (p + 1)
     by-type some el eu ev =
         let there : 0 < getD placed p 0 = omega (arith, some) in
         let typed : ltb 0 (getD placed p 0) ≡ true = lt-ltb 0 _ there in
@@ -69,19 +69,19 @@ module _ (number code free : ℕ) (offers placed given uses₀ : List ℕ) where
         record {
           number-filled = omega (arith, k .number-filled, one-more 0 (bit-false (rest p) out));
           written = write given steps _ p number inside (k .written) (rw typed);
-          uses-written = write uses₀ uses _ p 1 (omega arith) (k .uses-written) (rw typed);
+          used-written = write used₀ used _ p (getD placed p 0) (omega arith) (k .used-written) (rw typed);
         }
 
     module _ (none : getD placed p 0 ≡ 0) where
       untyped : ltb 0 (getD placed p 0) ≡ false
       untyped = le-ltb 0 (getD placed p 0) (omega arith)
 
-      unnoted : Written uses₀ uses (noted placed uses₀) (p + 1)
-      unnoted = keep uses₀ uses _ p (k .uses-written) (rw untyped)
+      unused : Written used₀ used (typeAfter placed used₀) (p + 1)
+      unused = keep used₀ used _ p (k .used-written) (rw untyped)
 
       -- it gets a position by merit
-      pub by-merit : {l u : List ℕ} {v : ℕ} {r : Bool} → filled < free → r ≡ considersBy offers steps code p → r ≡ true → l ≡ set steps p number → u ≡ uses → v ≡ filled + 1
-          → Filled number code free offers placed given uses₀ l u v (p + 1)
+      pub by-merit : {l u : List ℕ} {v : ℕ} {r : Bool} → filled < free → r ≡ considersBy offers steps code p → r ≡ true → l ≡ set steps p number → u ≡ used → v ≡ filled + 1
+          → Filled number code free offers placed given used₀ l u v (p + 1)
       by-merit less test e el eu ev =
           let in-play : X p ≡ true = sym considered ∙ sym test ∙ e in
           let left : rest p ≡ true = rw (untyped, in-play) in
@@ -90,12 +90,12 @@ module _ (number code free : ℕ) (offers placed given uses₀ : List ℕ) where
           record {
             number-filled = omega (arith, k .number-filled, one-more 1 (bit-true (rest p) left));
             written = write given steps _ p number inside (k .written) (rw (untyped, in-play, room));
-            uses-written = unnoted;
+            used-written = unused;
           }
 
       -- it is not considered
-      pub left-out : {l u : List ℕ} {v : ℕ} {r : Bool} → r ≡ considersBy offers steps code p → r ≡ false → l ≡ steps → u ≡ uses → v ≡ filled
-          → Filled number code free offers placed given uses₀ l u v (p + 1)
+      pub left-out : {l u : List ℕ} {v : ℕ} {r : Bool} → r ≡ considersBy offers steps code p → r ≡ false → l ≡ steps → u ≡ used → v ≡ filled
+          → Filled number code free offers placed given used₀ l u v (p + 1)
       left-out test e el eu ev =
           let out : X p ≡ false = sym considered ∙ sym test ∙ e in
           let gone : rest p ≡ false = rw out in
@@ -103,11 +103,11 @@ module _ (number code free : ℕ) (offers placed given uses₀ : List ℕ) where
           record {
             number-filled = omega (arith, k .number-filled, one-more 0 (bit-false (rest p) gone));
             written = keep given steps _ p (k .written) (rw (untyped, out));
-            uses-written = unnoted;
+            used-written = unused;
           }
 
       -- no position is free
-      pub no-room : {l u : List ℕ} {v : ℕ} → free ≤ filled → l ≡ steps → u ≡ uses → v ≡ filled → Filled number code free offers placed given uses₀ l u v (p + 1)
+      pub no-room : {l u : List ℕ} {v : ℕ} → free ≤ filled → l ≡ steps → u ≡ used → v ≡ filled → Filled number code free offers placed given used₀ l u v (p + 1)
       no-room z el eu ev =
           let full : ltb (count p rest) free ≡ false = le-ltb (count p rest) free (omega (arith, k .number-filled)) in
           let nobody : seatsAt placed X free p ≡ false = rw (untyped, full) (and-false (X p && true)) in
@@ -115,5 +115,5 @@ module _ (number code free : ℕ) (offers placed given uses₀ : List ℕ) where
           record {
             number-filled = omega (arith, k .number-filled, one-more (bit (rest p)) refl);
             written = keep given steps _ p (k .written) (sym (ap (λ (b : Bool). cond b number (getD given p 0)) nobody));
-            uses-written = unnoted;
+            used-written = unused;
           }

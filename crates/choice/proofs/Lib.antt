@@ -1,9 +1,14 @@
 pub mod Counting
+pub mod Counts
 pub mod Sets
+pub mod FirstNumber
 pub mod Tabulate
 pub mod Use
+pub mod Gathered
 pub mod Tight
 pub mod Hall
+pub mod FirstPlacing
+pub mod Types
 pub mod TakingRule
 pub mod Taking
 pub mod Filling
@@ -12,10 +17,11 @@ pub mod Completion
 pub mod Chosen
 pub mod Agreement
 pub mod Accounts
-pub mod Counts
+pub mod TypesFirst
 pub mod Visits
 pub mod Written
 pub mod Down
+pub mod Lowering
 pub mod Fills
 pub mod Steps
 pub mod Choosing

@@ -15,9 +15,11 @@ use Rattle.round.specs.Category.{codeOf}
 use Rattle.choice.specs.Step.{takenForUse, remaining, takenByMerit, taken}
 use Rattle.choice.specs.Offers.{Places}
 use Rattle.choice.specs.Taken.{Took}
-use Rattle.choice.specs.Fill.{typedAt, restAt, fillsAt, seatsAt, numbered, stepGiven, stepVacant, stepUses}
+use Rattle.choice.specs.Lowered.{PlacedFirst, TookTyped}
+use Rattle.choice.specs.Fill.{typedAt, restAt, fillsAt, seatsAt, numbered, typed, stepGiven, stepVacant, stepTypes}
 use Rattle.choice.proofs.Counting.{lessOr, count-ext}
 use Rattle.choice.proofs.Tabulate.{tabulate-cong}
+use Rattle.choice.proofs.Types.{types-cong}
 
 -- a part of a list of the same
 take-replicate : (k n : ℕ) → k ≤ n → take k (replicate n zero) ≡ replicate k zero
@@ -59,6 +61,9 @@ numbered-same : (n number : ℕ) (X Y : ℕ → Bool) (given : List ℕ) → ((q
 numbered-same n number X Y given h =
     tabulate-cong n _ _ (λ q l. ap (λ (b : Bool). cond b number (getD given q 0)) (h q l))
 
+typed-same : (n : ℕ) (types types′ : List ℕ) (X Y : ℕ → Bool) (used : List ℕ) → ((q : ℕ) → q < n → X q ≡ Y q) → types ≡ types′ → typed n types X used ≡ typed n types′ Y used
+typed-same n types types′ X Y used h e = tabulate-cong n _ _ (λ q l. rw (h q l, e))
+
 -- a position is left after h and k
 left-test : (h k positions : ℕ) → ltb k (positions - h) ≡ ltb (h + k) positions
 left-test h k positions =
@@ -87,7 +92,7 @@ count-sum : (n : ℕ) (A B C : ℕ → Bool) → ((p : ℕ) → bit (A p) ≡ bi
 count-sum zero A B C h = refl
 count-sum (suc n) A B C h = omega (arith, h n, count-sum n A B C h)
 
-module _ (reserved marks placed : List ℕ) (X : ℕ → Bool) (positions used : ℕ) (k : Took reserved marks placed X used) where
+module _ (first : Bool) (reserved marks placed : List ℕ) (X : ℕ → Bool) (positions used : ℕ) (k : TookTyped first reserved marks placed X used) where
   abbrev H : ℕ → Bool
   H = takenForUse reserved marks X
 
@@ -132,17 +137,26 @@ module _ (reserved marks placed : List ℕ) (X : ℕ → Bool) (positions used :
       merit : positions - (count n H + count n (takenByMerit reserved marks X positions)) ≡ positions - (count n H + count n (remaining reserved marks X))
       merit = unfold takenByMerit in left-same (remaining reserved marks X) (count n H) positions n .1
 
+-- the types of those taken for use, the first ones where they are asked for
+pub took-typed : {first : Bool} {reserved marks placed types : List ℕ} {X : ℕ → Bool} {took count : ℕ} → Took reserved marks placed X took → PlacedFirst first reserved marks placed types → count ≡ took
+    → TookTyped first reserved marks types X count
+took-typed {reserved = reserved} {marks} k f e = record {
+  each = λ q l. k .each q l ∙ sym (f .same q);
+  number = e ∙ k .number;
+  types = λ t. f .types t ∙ types-cong reserved marks _ _ (λ q l. sym (k .each q l));
+}
+
 -- what filling says of the types and the positions left is what the step says
-pub step-done : {reserved marks offers placed placed′ given steps uses₀ uses : List ℕ} {X : ℕ → Bool} (number positions : ℕ) {used free filled vacant : ℕ}
-    → Places marks offers given uses₀ → Took reserved marks placed X used → placed′ ≡ placed → free ≡ positions - used
-    → (steps ≡ numbered (length given) number (seatsAt placed′ X free) given) × (filled ≡ min free (count (length given) (restAt placed′ X)))
-    × (uses ≡ numbered (length given) 1 (typedAt placed′) uses₀) → vacant ≡ free - filled
+pub step-done : {reserved marks offers types types′ given steps used₀ used : List ℕ} {X : ℕ → Bool} {first : Bool} (number positions : ℕ) {took free filled vacant : ℕ}
+    → Places marks offers given used₀ → TookTyped first reserved marks types X took → types′ ≡ types → free ≡ positions - took
+    → (steps ≡ numbered (length given) number (seatsAt types′ X free) given) × (filled ≡ min free (count (length given) (restAt types′ X)))
+    × (used ≡ typed (length given) types′ (typedAt types′) used₀) → vacant ≡ free - filled
     → (steps ≡ stepGiven number reserved marks X positions given) × (vacant ≡ stepVacant reserved marks X positions)
-    × (uses ≡ stepUses reserved marks X uses₀)
-step-done {reserved} {marks} {placed = placed} {given = given} {uses₀ = uses₀} {X = X} number positions {used} {free} {filled} {vacant} p k same left f v = (
-  rw (same, p .steps-each, left) at (f .0) ∙ numbered-same (length marks) number _ _ given (seats-same reserved marks placed X positions used k),
-  vacant-same reserved marks placed X positions used k free filled vacant left (rw (same, p .steps-each) at (f .1)) v,
-  rw (same, p .steps-each) at (f .2) ∙ numbered-same (length marks) 1 _ _ uses₀ (λ q l. sym (k .each q l)),
+    × (first ≡ true → used ≡ stepTypes reserved marks X used₀)
+step-done {reserved} {marks} {types = types} {given = given} {used₀ = used₀} {X = X} {first} number positions {took} {free} {filled} {vacant} p k same left s v = (
+  rw (same, p .steps-each, left) at (s .0) ∙ numbered-same (length marks) number _ _ given (seats-same first reserved marks types X positions took k),
+  vacant-same first reserved marks types X positions took k free filled vacant left (rw (same, p .steps-each) at (s .1)) v,
+  λ t. rw (same, p .steps-each) at (s .2) ∙ typed-same (length marks) types _ _ _ used₀ (λ q l. sym (k .each q l)) (k .types t),
 )
 
 pub code-small : (x : Category) → codeOf x ≤ 4

@@ -89,15 +89,15 @@ pub cap-none : (reserved : List ℕ) → cap reserved (λ t. false) ≡ 0
 unfolding cap
 cap-none reserved = sumOf-zero (length reserved) (share reserved (λ t. false)) (λ t l. refl)
 
-cond-less : (b : Bool) (x y : ℕ) → x ≡ suc y → cond b x 0 ≡ bit b + cond b y 0
+pub cond-less : (b : Bool) (x y : ℕ) → x ≡ suc y → cond b x 0 ≡ bit b + cond b y 0
 cond-less true x y e = omega arith
 cond-less false x y e = omega arith
 
-cond-zero : (b : Bool) → _≡_ {A = ℕ} (cond b 0 0) 0
+pub cond-zero : (b : Bool) → _≡_ {A = ℕ} (cond b 0 0) 0
 cond-zero true = refl
 cond-zero false = refl
 
-cond-le : (b : Bool) (x y : ℕ) → (b ≡ true → x ≤ y) → cond b x 0 ≤ cond b y 0
+pub cond-le : (b : Bool) (x y : ℕ) → (b ≡ true → x ≤ y) → cond b x 0 ≤ cond b y 0
 cond-le true x y h = h refl
 cond-le false x y h = omega arith
 

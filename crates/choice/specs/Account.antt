@@ -1,5 +1,6 @@
--- The account of an institute's choice: what each step did, as it was done (document 01, "One institute chooses"; document 02, Point 1).
+-- The account of an institute's choice: what each step did, as it was done (document 01, "One institute chooses"; document 02, Points 1 and 3).
 use Prim.Native.Nat.{ℕ, suc, _-_}
+use mathlib.Core.Path.{_≡_}
 use mathlib.Core.Bool.{Bool, false, cond, _||_}
 use mathlib.Core.List.{List, [], _∷_}
 use lib.ListN.{length, getD}
@@ -7,6 +8,8 @@ use Rattle.round.specs.declared.entry.Category.{Category}
 use Rattle.round.specs.Round.{StepRule}
 use Rattle.round.specs.Lists.{tabulate, greatest}
 use Rattle.choice.specs.Step.{takenForUse, takenByMerit}
+use Rattle.choice.specs.Gathers.{gathered}
+use Rattle.choice.specs.FirstPlacing.{Smallest, typesOf}
 use Rattle.choice.specs.Choice.{Progress, considers, positionsAt, vacantAt, advance, nothingDone}
 
 -- what one step did
@@ -16,6 +19,8 @@ pub record StepAccount : Type 0 where
   -- of each place, from 0, whether the step took it for raising the use, and whether in its fill by merit
   pub forUse : List Bool
   pub byMerit : List Bool
+  -- of each place the type, from 1, that it used for the candidate there, by the first placing of those taken for raising the use; 0 for the others
+  pub types : List ℕ
   -- the positions that it left vacant, handed on or not
   pub vacant : ℕ
 
@@ -25,9 +30,12 @@ tookForUse step p = getD (step .forUse) p false
 abbrev pub tookByMerit : StepAccount → ℕ → Bool
 tookByMerit step p = getD (step .byMerit) p false
 
+abbrev pub typeUsed : StepAccount → ℕ → ℕ
+typeUsed step p = getD (step .types) p 0
+
 -- the steps of an account have numbers from 1; beyond the last stands one that did nothing
 abbrev pub accountOf : List StepAccount → ℕ → StepAccount
-accountOf steps k = getD steps (k - 1) (record { positions = 0; forUse = []; byMerit = []; vacant = 0 })
+accountOf steps k = getD steps (k - 1) (record { positions = 0; forUse = []; byMerit = []; types = []; vacant = 0 })
 
 module _ (marks : List ℕ) (offered : ℕ → Category → Bool) where
   -- step k, from the state before it
@@ -37,6 +45,7 @@ module _ (marks : List ℕ) (offered : ℕ → Category → Bool) where
     forUse = tabulate (length marks) (takenForUse (rule .reserved) marks (considers marks offered rule done));
     byMerit = tabulate (length marks)
         (takenByMerit (rule .reserved) marks (considers marks offered rule done) (positionsAt marks offered k rule done));
+    types = typesOf (rule .reserved) marks (takenForUse (rule .reserved) marks (considers marks offered rule done));
     vacant = vacantAt marks offered k rule done;
   }
 
@@ -58,6 +67,17 @@ unfoldable pub usedIn : List StepAccount → ℕ → Bool
 usedIn [] p = false
 usedIn (step ∷ steps) p = tookForUse step p || usedIn steps p
 
--- of n places, 1 for each that was taken for use and 0 for the others
-unfoldable pub usesIn : ℕ → List StepAccount → List ℕ
-usesIn n steps = tabulate n (λ p. cond (usedIn steps p) 1 0)
+-- the type, from 1, that some step used for place p; 0 where no step took it for use
+unfoldable pub typeIn : List StepAccount → ℕ → ℕ
+typeIn [] p = 0
+typeIn (step ∷ steps) p = cond (tookForUse step p) (typeUsed step p) (typeIn steps p)
+
+-- the types of n places
+unfoldable pub typesIn : ℕ → List StepAccount → List ℕ
+typesIn n steps = tabulate n (typeIn steps)
+
+-- those whom a step took for use, down the merit list, have the smallest of all placings that place them all; the others have no type
+pub record TypesFirst (reserved marks : List ℕ) (step : StepAccount) : Type 0 where
+  pub first :
+      Smallest reserved (gathered (tookForUse step) (length marks) (λ p. getD marks p 0)) (gathered (tookForUse step) (length marks) (typeUsed step))
+  pub others : (p : ℕ) → tookForUse step p ≡ false → typeUsed step p ≡ 0

@@ -1,5 +1,5 @@
 -- The places that a step gives its number to, by the types given on the way down and the positions left (document 01, "One
--- institute chooses": "Then fill the remaining positions by merit with those left, marked or not."), and the note of those taken for use.
+-- institute chooses": "Then fill the remaining positions by merit with those left, marked or not."), and the types of those taken for use.
 use Prim.Native.Nat.{ℕ, _-_}
 use mathlib.Core.Bool.{Bool, cond, not, _&&_, _||_}
 use mathlib.Core.List.{List}
@@ -7,6 +7,7 @@ use lib.Dec.{ltb}
 use lib.ListN.{length, getD}
 use Rattle.round.specs.Lists.{tabulate, count}
 use Rattle.choice.specs.Step.{takenForUse, taken}
+use Rattle.choice.specs.FirstPlacing.{typesOf}
 
 -- given a type
 abbrev pub typedAt : List ℕ → ℕ → Bool
@@ -27,7 +28,11 @@ seatsAt placed considered free p = typedAt placed p || fillsAt placed considered
 abbrev pub numbered : ℕ → ℕ → (ℕ → Bool) → List ℕ → List ℕ
 numbered n number X given = tabulate n (λ p. cond (X p) number (getD given p 0))
 
--- the steps after one step, the positions that it leaves vacant, and the note of those taken for use
+-- the list with these types at the places of the set
+abbrev pub typed : ℕ → List ℕ → (ℕ → Bool) → List ℕ → List ℕ
+typed n types X used = tabulate n (λ p. cond (X p) (getD types p 0) (getD used p 0))
+
+-- the steps after one step, the positions that it leaves vacant, and the types used
 abbrev pub stepGiven : ℕ → List ℕ → List ℕ → (ℕ → Bool) → ℕ → List ℕ → List ℕ
 stepGiven number reserved marks considered positions given =
     numbered (length marks) number (taken reserved marks considered positions) given
@@ -35,5 +40,7 @@ stepGiven number reserved marks considered positions given =
 abbrev pub stepVacant : List ℕ → List ℕ → (ℕ → Bool) → ℕ → ℕ
 stepVacant reserved marks considered positions = positions - count (length marks) (taken reserved marks considered positions)
 
-abbrev pub stepUses : List ℕ → List ℕ → (ℕ → Bool) → List ℕ → List ℕ
-stepUses reserved marks considered uses = numbered (length marks) 1 (takenForUse reserved marks considered) uses
+abbrev pub stepTypes : List ℕ → List ℕ → (ℕ → Bool) → List ℕ → List ℕ
+stepTypes reserved marks considered used =
+    let X : ℕ → Bool = takenForUse reserved marks considered in
+    typed (length marks) (typesOf reserved marks X) X used

@@ -8,3 +8,5 @@ pub mod Taken
 pub mod Fill
 pub mod Handed
 pub mod Gathers
+pub mod FirstPlacing
+pub mod Lowered

@@ -17,9 +17,9 @@ offeredBy offers p category = holds (getD offers p 0) (codeOf category)
 abbrev pub considersBy : List ℕ → List ℕ → ℕ → ℕ → Bool
 considersBy offers given code p = holds (getD offers p 0) code && eqb (getD given p 0) 0
 
--- the marks, the offers, the steps and the notes of use of at most 512 places
-pub record Places (marks offers steps uses : List ℕ) : Type 0 where
+-- the marks, the offers, the steps and the types used of at most 512 places
+pub record Places (marks offers steps used : List ℕ) : Type 0 where
   pub few : length marks ≤ 512
   pub offers-each : length offers ≡ length marks
   pub steps-each : length steps ≡ length marks
-  pub uses-each : length uses ≡ length marks
+  pub used-each : length used ≡ length marks

@@ -6,6 +6,7 @@ use mathlib.Core.List.{List}
 use lib.Dec.{ltb}
 use lib.ListN.{length, getD}
 use Rattle.round.specs.Lists.{count}
+use Rattle.choice.specs.Use.{Placing}
 use Rattle.choice.specs.Step.{takenForUse}
 use Rattle.choice.specs.Search.{Moved, Stuck}
 
@@ -23,7 +24,8 @@ pub record Attempted (reserved marks exhausted exhausted′ before after : List 
   pub spared : r ≡ true → exhausted′ ≡ exhausted
   pub stuck : r ≡ false → Stuck reserved marks exhausted exhausted′ before after c
 
--- just those taken for use are given a type, and r is their number
+-- just those taken for use are given a type, by a placing, and r is their number
 pub record Took (reserved marks placed : List ℕ) (considered : ℕ → Bool) (r : ℕ) : Type 0 where
+  pub placing : Placing reserved marks placed
   pub each : (p : ℕ) → p < length marks → takenForUse reserved marks considered p ≡ ltb 0 (getD placed p 0)
   pub number : r ≡ count (length marks) (takenForUse reserved marks considered)

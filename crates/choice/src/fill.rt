@@ -5,10 +5,10 @@ ghost use Prim.Native.Nat.{min, _<_};
 ghost use lib.ListN.{length};
 ghost use Rattle.round.specs.Lists.{count};
 ghost use Rattle.choice.specs.Offers.{considersBy};
-ghost use Rattle.choice.specs.Fill.{typedAt, restAt, seatsAt, numbered};
+ghost use Rattle.choice.specs.Fill.{typedAt, restAt, seatsAt, numbered, typed};
 
-// Gives the step's number to each place that has a type, which is noted as taken for use, and to the best of the rest, as far as positions
-// are free; returns how many of the rest got it.
+// Gives the step's number to each place that has a type, which is the type used, and to the best of the rest, as far as positions are free;
+// returns how many of the rest got it.
 pub fn fill(
     free: usize,
     number: u8,
@@ -16,18 +16,18 @@ pub fn fill(
     code: usize,
     placed: &[u8],
     steps: &mut [u8],
-    uses: &mut [u8],
+    used: &mut [u8],
 ) -> usize
-    requires { ⌜ (code < 5) × (length (now offers) ≡ length (now steps)) × (length (now placed) ≡ length (now steps)) × (length (now uses) ≡ length (now steps)) ⌝ }
+    requires { ⌜ (code < 5) × (length (now offers) ≡ length (now steps)) × (length (now placed) ≡ length (now steps)) × (length (now used) ≡ length (now steps)) ⌝ }
     ensures { λ r. ⌜ (now (steps .exit) ≡ numbered (length (now (steps .entry))) number (seatsAt (now (placed .entry)) (considersBy (now (offers .entry)) (now (steps .entry)) code) free) (now (steps .entry)))
         × (r ≡ min free (count (length (now (steps .entry))) (restAt (now (placed .entry)) (considersBy (now (offers .entry)) (now (steps .entry)) code))))
-        × (now (uses .exit) ≡ numbered (length (now (steps .entry))) 1 (typedAt (now (placed .entry))) (now (uses .entry))) ⌝ }
+        × (now (used .exit) ≡ typed (length (now (steps .entry))) (now (placed .entry)) (typedAt (now (placed .entry))) (now (used .entry))) ⌝ }
 {
     let mut filled = 0;
     for p in 0..steps.len() {
         if placed[p] != 0 {
             steps[p] = number;
-            uses[p] = 1;
+            used[p] = placed[p];
         } else if filled < free {
             if considers(offers, steps, code, p) {
                 steps[p] = number;

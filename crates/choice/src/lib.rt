@@ -1,5 +1,6 @@
 // One institute's choice: the steps of a list of rules, one after the other.
 pub mod fill;
+pub mod first;
 pub mod placing;
 pub mod step;
 pub mod take;
@@ -7,13 +8,14 @@ pub mod take;
 use round::clearing::clear;
 use step::step;
 ghost use mathlib.Core.Path.{_≡_};
+ghost use mathlib.Core.Bool.{true};
 ghost use Prim.Native.Nat.{suc};
 ghost use lib.ListN.{length, replicate};
 ghost use Rattle.round.specs.Rules.{ruleIn, rulesIn, RuleTable};
 ghost use Rattle.choice.specs.Choice;
-ghost use Rattle.choice.specs.Account.{accountAt, account, usesIn};
+ghost use Rattle.choice.specs.Account.{accountAt, account, typesIn};
 ghost use Rattle.choice.specs.Offers.{offeredBy, Places};
-ghost use Rattle.choice.specs.Handed.{doneBy, usesWith, Handing};
+ghost use Rattle.choice.specs.Handed.{doneBy, typesWith, Handing};
 
 // Nothing handed to anybody.
 fn none_handed() -> [usize; 13]
@@ -29,57 +31,70 @@ fn next_step(
     k: usize,
     marks: &[u8],
     offers: &[u8],
+    first: bool,
     handed: &mut [usize],
     steps: &mut [u8],
-    uses: &mut [u8],
+    used: &mut [u8],
 )
     requires { ⌜ RuleTable types (suc k) (now rules) ⌝ }
     requires { ⌜ Handing k (now handed) ⌝ }
-    requires { ⌜ Places (now marks) (now offers) (now steps) (now uses) ⌝ }
+    requires { ⌜ Places (now marks) (now offers) (now steps) (now used) ⌝ }
     ensures { λ _. ⌜ (doneBy (now (steps .exit)) (now (handed .exit)) ≡ Choice.advance (now (marks .entry)) (offeredBy (now (offers .entry))) (suc k) (ruleIn types (now (rules .entry)) k) (doneBy (now (steps .entry)) (now (handed .entry))))
         × Handing (suc k) (now (handed .exit))
-        × (now (uses .exit) ≡ usesWith (length (now (marks .entry))) (accountAt (now (marks .entry)) (offeredBy (now (offers .entry))) (suc k) (ruleIn types (now (rules .entry)) k) (doneBy (now (steps .entry)) (now (handed .entry)))) (now (uses .entry))) ⌝ }
+        × (first ≡ true → now (used .exit) ≡ typesWith (length (now (marks .entry))) (accountAt (now (marks .entry)) (offeredBy (now (offers .entry))) (suc k) (ruleIn types (now (rules .entry)) k) (doneBy (now (steps .entry)) (now (handed .entry)))) (now (used .entry))) ⌝ }
 {
     let at = k * (3 + types);
     let code = rules[at];
     let receiver = rules[at + 1];
     let positions = rules[at + 2] + handed[k + 1];
-    let first = at + 3;
-    let end = first + types;
+    let start = at + 3;
+    let end = start + types;
     let number = (k + 1) as u8;
     let vacant = step(
-        &rules[first..end],
+        &rules[start..end],
         positions,
         code,
         number,
         marks,
         offers,
+        first,
         steps,
-        uses,
+        used,
     );
     handed[receiver] += vacant;
 }
 
-// The step at which each place is taken, 0 for none, and whether for use, 1 or 0, from so many rows of a table of rules, the marks and the
-// offers at the places.
+// The step at which each place is taken, 0 for none, from so many rows of a table of rules, the marks and the offers at the places; with
+// `first` also the type used there, 0 where it is not taken for use.
 pub fn choose(
     rules: &[usize],
     types: usize,
     count: usize,
     marks: &[u8],
     offers: &[u8],
+    first: bool,
     steps: &mut [u8],
-    uses: &mut [u8],
+    used: &mut [u8],
 )
     requires { ⌜ RuleTable types count (now rules) ⌝ }
-    requires { ⌜ Places (now marks) (now offers) (now steps) (now uses) ⌝ }
+    requires { ⌜ Places (now marks) (now offers) (now steps) (now used) ⌝ }
     ensures { λ _. ⌜ (now (steps .exit) ≡ Choice.choose (now (marks .entry)) (offeredBy (now (offers .entry))) (rulesIn types count (now (rules .entry))))
-        × (now (uses .exit) ≡ usesIn (length (now (marks .entry))) (account (now (marks .entry)) (offeredBy (now (offers .entry))) (rulesIn types count (now (rules .entry))))) ⌝ }
+        × (first ≡ true → now (used .exit) ≡ typesIn (length (now (marks .entry))) (account (now (marks .entry)) (offeredBy (now (offers .entry))) (rulesIn types count (now (rules .entry))))) ⌝ }
 {
     clear(steps, marks.len());
-    clear(uses, marks.len());
+    clear(used, marks.len());
     let mut handed = none_handed();
     for k in 0..count {
-        next_step(rules, types, k, marks, offers, &mut handed, steps, uses);
+        next_step(
+            rules,
+            types,
+            k,
+            marks,
+            offers,
+            first,
+            &mut handed,
+            steps,
+            used,
+        );
     }
 }

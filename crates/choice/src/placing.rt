@@ -37,7 +37,7 @@ pub fn placed_at(placed: &[u8], t: usize) -> usize
 }
 
 // Whether the marks have type t and the search has not been there.
-fn to_try(marks: u8, visited: &[u8], t: usize) -> bool
+pub fn to_try(marks: u8, visited: &[u8], t: usize) -> bool
     requires { ⌜ (t < 8) × (t < length (now visited)) ⌝ }
     ensures { λ r. ⌜ r ≡ (holds marks t && eqb (getD (now (visited .entry)) t 0) 0) ⌝ }
 {

@@ -1,25 +1,27 @@
-// One step: taking for use, then filling by merit.
+// One step: taking for use, the types of those taken, then filling by merit.
 use crate::fill::fill;
-use crate::take::take_for_use;
+use crate::first::take_typed;
 use round::clearing::zeros;
 ghost use mathlib.Core.Path.{_≡_};
+ghost use mathlib.Core.Bool.{true};
 ghost use Prim.Native.Nat.{_-_, _≤_, _<_};
 ghost use lib.ListN.{length};
 ghost use Rattle.choice.specs.Offers.{considersBy, Places};
-ghost use Rattle.choice.specs.Fill.{stepGiven, stepVacant, stepUses};
+ghost use Rattle.choice.specs.Fill.{stepGiven, stepVacant, stepTypes};
 
 // The positions that so many leave.
-fn left_of(positions: usize, used: usize) -> usize
-    ensures { λ r. ⌜ r ≡ positions - used ⌝ }
+fn left_of(positions: usize, filled: usize) -> usize
+    ensures { λ r. ⌜ r ≡ positions - filled ⌝ }
 {
-    if used < positions {
-        positions - used
+    if filled < positions {
+        positions - filled
     } else {
         0
     }
 }
 
-// Does one step, notes whom it takes for use, and returns the positions that it leaves vacant.
+// Does one step and returns the positions that it leaves vacant; with `first` the types used are those of the first placing, else nothing is
+// said of them.
 pub fn step(
     reserved: &[usize],
     positions: usize,
@@ -27,19 +29,20 @@ pub fn step(
     number: u8,
     marks: &[u8],
     offers: &[u8],
+    first: bool,
     steps: &mut [u8],
-    uses: &mut [u8],
+    used: &mut [u8],
 ) -> usize
     requires { ⌜ (length (now reserved) ≤ 8) × (code < 5) ⌝ }
-    requires { ⌜ Places (now marks) (now offers) (now steps) (now uses) ⌝ }
+    requires { ⌜ Places (now marks) (now offers) (now steps) (now used) ⌝ }
     ensures { λ r. ⌜ (now (steps .exit) ≡ stepGiven number (now (reserved .entry)) (now (marks .entry)) (considersBy (now (offers .entry)) (now (steps .entry)) code) positions (now (steps .entry)))
         × (r ≡ stepVacant (now (reserved .entry)) (now (marks .entry)) (considersBy (now (offers .entry)) (now (steps .entry)) code) positions)
-        × (now (uses .exit) ≡ stepUses (now (reserved .entry)) (now (marks .entry)) (considersBy (now (offers .entry)) (now (steps .entry)) code) (now (uses .entry))) ⌝ }
+        × (first ≡ true → now (used .exit) ≡ stepTypes (now (reserved .entry)) (now (marks .entry)) (considersBy (now (offers .entry)) (now (steps .entry)) code) (now (used .entry))) ⌝ }
 {
     let n = marks.len();
     let mut types = zeros();
-    let used = take_for_use(reserved, marks, offers, steps, code, &mut types[..n]);
-    let free = left_of(positions, used);
-    let filled = fill(free, number, offers, code, &types[..n], steps, uses);
+    let count = take_typed(first, reserved, marks, offers, steps, code, &mut types[..n]);
+    let free = left_of(positions, count);
+    let filled = fill(free, number, offers, code, &types[..n], steps, used);
     left_of(free, filled)
 }

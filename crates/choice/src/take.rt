@@ -18,7 +18,7 @@ pub fn considers(offers: &[u8], steps: &[u8], code: usize, p: usize) -> bool
 }
 
 // Copies the bytes of one list into another.
-fn copy(from: &[u8], to: &mut [u8])
+pub fn copy(from: &[u8], to: &mut [u8])
     requires { ⌜ length (now to) ≡ length (now from) ⌝ }
     ensures { λ _. ⌜ now (to .exit) ≡ now (from .entry) ⌝ }
 {

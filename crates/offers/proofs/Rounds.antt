@@ -1,7 +1,6 @@
 -- Every sound round is a market, its process is the market's, and its list is stable and truthful.
 pub mod Numbered
 pub mod Fives
-pub mod First
 pub mod Places
 pub mod Completed
 pub mod Institutes
@@ -15,6 +14,7 @@ pub mod Standing
 pub mod Given
 pub mod StableRound
 pub mod AccountRound
+pub mod FirstTypes
 pub mod TruthfulRound
 pub mod Bounds
 pub mod Orders

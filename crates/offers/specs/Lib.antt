@@ -7,4 +7,5 @@ pub mod Standing
 pub mod Stable
 pub mod Held
 pub mod Sweeps
-pub mod Uses
+pub mod Types
+pub mod FirstTypes

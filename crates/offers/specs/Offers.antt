@@ -2,7 +2,7 @@
 -- An offer is a candidate with one entry of that candidate's row. A set of offers to an institute says of candidate i, from 0, and a category
 -- whether i's entry there is in the set; that each is of the row is said where it matters.
 use Prim.Native.Nat.{ℕ, suc, _-_}
-use mathlib.Core.Bool.{Bool, cond, not, _&&_}
+use mathlib.Core.Bool.{Bool, not, _&&_}
 use mathlib.Core.List.{List, map}
 use lib.Dec.{eqb}
 use lib.ListN.{length, getD}
@@ -10,7 +10,7 @@ use Rattle.round.specs.declared.entry.Category.{Category}
 use Rattle.round.specs.Lists.{first}
 use Rattle.round.specs.Round.{Round}
 use Rattle.choice.specs.Choice.{choose}
-use Rattle.choice.specs.Account.{StepAccount, account, usedIn}
+use Rattle.choice.specs.Account.{StepAccount, account, typeIn}
 use Rattle.round.specs.Places.{candidateAt, instituteAt, meritAt}
 use Rattle.offers.specs.Rows.{sameCategory, categoryAt}
 
@@ -47,9 +47,9 @@ module _ (r : Round) (j : ℕ) where
   unfoldable pub stepFor : OfferSet → ℕ → ℕ
   stepFor offers i = getD (stepsOn offers) (placeOn i) 0
 
-  -- 1 where institute j takes candidate i for use, else 0
-  unfoldable pub usedFor : OfferSet → ℕ → ℕ
-  usedFor offers i = cond (usedIn (accountOn offers) (placeOn i)) 1 0
+  -- the type, from 1, that institute j uses for candidate i; 0 where it does not take i for use
+  unfoldable pub typeFor : OfferSet → ℕ → ℕ
+  typeFor offers i = typeIn (accountOn offers) (placeOn i)
 
   -- the offers that institute j takes
   unfoldable pub takenFrom : OfferSet → OfferSet

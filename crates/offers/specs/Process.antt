@@ -1,13 +1,13 @@
 -- The offers (document 01, "Offers"): who offers what, how long, and the seats that result.
 -- A state of the process is how many entries of each row have been tried, best first.
-use Prim.Native.Nat.{ℕ, zero, suc}
+use Prim.Native.Nat.{ℕ, zero, suc, _-_}
 use mathlib.Core.Bool.{Bool, cond, not, _&&_}
 use mathlib.Core.List.{List, [], map}
 use lib.Dec.{eqb, ltb}
 use lib.ListN.{length, getD, set, replicate}
 use Rattle.round.specs.Lists.{tabulate, first, sum}
 use Rattle.round.specs.Round.{Round}
-use Rattle.choice.specs.Account.{StepAccount}
+use Rattle.choice.specs.Account.{StepAccount, typeUsed, accountOf}
 use Rattle.offers.specs.Rows.{rowAt, rankIn, entryOf}
 use Rattle.offers.specs.Offers.{OfferSet, stepsOn, accountOn, placeOn}
 
@@ -90,3 +90,16 @@ module _ (r : Round) where
   -- the account of institute j's choice from all offers ever made to it, when the process has ended
   unfoldable pub accountAtEnd : ℕ → List StepAccount
   accountAtEnd j = accountOn r j (madeTo tried j)
+
+  -- the type under which candidate i is seated (document 02, Point 3), by the list and these accounts: the one that the seat's step used at the
+  -- candidate's merit place, which is 0 where the step took it in its fill by merit; 0 for no seat
+  unfoldable pub typeBy : List Seat → List (List StepAccount) → ℕ → ℕ
+  typeBy list accounts i =
+      let seat = getD list i noSeat in
+      let j : ℕ = seat .institute - 1 in
+      let step = accountOf (getD accounts j []) (seat .step) in
+      cond (isNone seat) 0 (typeUsed step (placeOn r j i))
+
+  -- the type of each candidate, or 0
+  unfoldable pub typesUsed : List ℕ
+  typesUsed = let list = seats in let accounts = tabulate instituteCount accountAtEnd in tabulate candidateCount (typeBy list accounts)

@@ -16,7 +16,7 @@ use Rattle.round.specs.Places.{candidateAt, instituteAt, entryAt}
 use Rattle.choice.specs.Use.{holds}
 use Rattle.choice.specs.Gathers.{Gathers}
 use Rattle.offers.specs.Rows.{rowAt, rankIn, entryOf}
-use Rattle.offers.specs.Offers.{OfferSet, candidateOn, placeOn, stepFor, usedFor}
+use Rattle.offers.specs.Offers.{OfferSet, candidateOn, placeOn, stepFor, typeFor}
 use Rattle.offers.specs.Process.{candidateCount}
 
 -- the offers to institute j among the entries that the candidates tried last
@@ -99,15 +99,15 @@ module _ (r : Round) (j : ℕ) where
   unfoldable pub takesPart : (ℕ → ℕ) → ℕ → Bool
   takesPart offer c = ltb (placeOn r j c) (length (instituteAt r j .merit)) && not (eqb (offer c) 0)
 
-  -- the first k of a list are those who take part, each once; further lists have for each the step that institute j gives, and whether it is
-  -- for use
-  pub record ChosenListed (offer : ℕ → ℕ) (who chosen uses : List ℕ) (k : ℕ) : Type 0 where
+  -- the first k of a list are those who take part, each once; further lists have for each the step that institute j gives, and, where
+  -- it is asked for, the type that it uses
+  pub record ChosenListed (offer : ℕ → ℕ) (first : Bool) (who chosen used : List ℕ) (k : ℕ) : Type 0 where
     pub few : k ≤ 512
     pub apart : Apart who (candidateCount r) k
     pub part : (q : ℕ) → q < k → takesPart offer (getD who q 0) ≡ true
     pub each : (c : ℕ) → takesPart offer c ≡ true → (q : ℕ) × (q < k) × (getD who q 0 ≡ c)
     pub chosen-at : (q : ℕ) → q < k → getD chosen q 0 ≡ stepFor r j (offersBy offer) (getD who q 0)
-    pub used-at : (q : ℕ) → q < k → getD uses q 0 ≡ usedFor r j (offersBy offer) (getD who q 0)
+    pub typed-at : first ≡ true → (q : ℕ) → q < k → getD used q 0 ≡ typeFor r j (offersBy offer) (getD who q 0)
 
   -- a table has these values for those who take part, and for everybody else what stood there
   pub record PutFor (offer value : ℕ → ℕ) (before after : List ℕ) : Type 0 where

@@ -16,7 +16,7 @@ ghost use Rattle.round.specs.Reading.{roundOf};
 ghost use Rattle.offers.specs.Held.{AtHand};
 ghost use Rattle.offers.specs.Sweeps.{offerTo, ChosenListed, ChosenAnew, ChosenAll};
 
-// Institute j, from 0, chooses: lists who takes part, the step of each and whether it is for use, and returns their number.
+// Institute j, from 0, chooses: lists who takes part, the step of each and, with `first`, the type used, and returns their number.
 pub fn choose_listed(
     file: &[u8],
     h: Head,
@@ -25,16 +25,17 @@ pub fn choose_listed(
     j: usize,
     asked: &[u8],
     wanted: &[u8],
+    first: bool,
     who: &mut [u16],
     chosen: &mut [u8],
-    uses: &mut [u8],
+    used: &mut [u8],
 ) -> usize
     requires { ⌜ AtHand (now file) h (now candidates) (now merits) ⌝ }
     requires { ⌜ j < h .institutes ⌝ }
     requires { ⌜ (length (now asked) ≡ h .candidates) × (length (now wanted) ≡ h .candidates) ⌝ }
-    requires { ⌜ (512 ≤ length (now who)) × (512 ≤ length (now chosen)) × (512 ≤ length (now uses)) ⌝ }
+    requires { ⌜ (512 ≤ length (now who)) × (512 ≤ length (now chosen)) × (512 ≤ length (now used)) ⌝ }
     ensures { λ k. ⌜ ChosenListed (roundOf (now (file .entry))) j (offerTo (suc j) (now (asked .entry)) (now (wanted .entry)))
-        (now (who .exit)) (now (chosen .exit)) (now (uses .exit)) k ⌝ }
+        first (now (who .exit)) (now (chosen .exit)) (now (used .exit)) k ⌝ }
 {
     let mut marks = zeros();
     let mut offers = zeros();
@@ -58,8 +59,9 @@ pub fn choose_listed(
         count,
         &marks[..k],
         &offers[..k],
+        first,
         &mut chosen[..k],
-        &mut uses[..k],
+        &mut used[..k],
     );
     k
 }
@@ -83,7 +85,7 @@ fn choose_anew(
 {
     let mut who = nobody();
     let mut chosen = zeros();
-    let mut uses = zeros();
+    let mut used = zeros();
     let k = choose_listed(
         file,
         h,
@@ -92,9 +94,10 @@ fn choose_anew(
         j,
         asked,
         wanted,
+        false,
         &mut who,
         &mut chosen,
-        &mut uses,
+        &mut used,
     );
     scatter(&who[..k], &chosen[..k], steps);
 }

@@ -5,4 +5,4 @@ mod offering;
 pub mod process;
 mod scatter;
 mod table;
-pub mod uses;
+pub mod types;

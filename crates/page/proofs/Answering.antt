@@ -1,5 +1,5 @@
 -- The page of an accepted file: its head is there, the page fits, and what is read off its answer area is the page of its round.
-use Prim.Native.Nat.{ℕ, _+_, _*_, _≤_}
+use Prim.Native.Nat.{ℕ, _+_, _*_, _<_, _≤_}
 use mathlib.Core.Path.{_≡_, sym, ap, _∙_}
 use mathlib.Core.List.{List}
 use native.Mathlib.Omega.{arith}
@@ -14,13 +14,13 @@ use Rattle.round.proofs.Answers as answers
 use Rattle.round.proofs.Passed.{passed}
 use Rattle.round.proofs.Sound.{sound, length-candidates, length-institutes}
 use Rattle.offers.specs.Process.{candidateCount, instituteCount}
-use Rattle.allotment.specs.Areas.{answerBytes}
+use Rattle.allotment.specs.Areas.{answerBytes, seatIn}
 use Rattle.allotment.proofs.Files.AreaSeats.{length-answer}
 use Rattle.text.specs.Put.{Fits, Put, Front}
 use Rattle.text.proofs.Putting.{front-put}
 use Rattle.page.specs.Page.{page}
 use Rattle.page.specs.Reads.{pageIn, Answered}
-use Rattle.page.proofs.Stands.{page-stands}
+use Rattle.page.proofs.Stands.{digits-few, page-stands}
 use Rattle.page.proofs.Short.{page-short}
 
 module _ {file : List ℕ} {offers : ℕ} {answer : List ℕ} (known : Answered file offers answer) where
@@ -47,7 +47,7 @@ module _ {file : List ℕ} {offers : ℕ} {answer : List ℕ} (known : Answered 
     institutes-many : h .institutes ≡ instituteCount (roundOf file)
     institutes-many = ap (λ (k : Head). k .institutes) same-head ∙ sym (length-institutes file)
 
-    pub answer-there : 2 * h .candidates + 12 * h .institutes ≤ length answer
+    pub answer-there : 3 * h .candidates + 12 * h .institutes ≤ length answer
     answer-there =
         omega (
           arith,
@@ -58,9 +58,17 @@ module _ {file : List ℕ} {offers : ℕ} {answer : List ℕ} (known : Answered 
           length-answer (roundOf file),
         )
 
+    seats-few : (i : ℕ) → i < h .candidates → (seatIn answer i .institute < 100) × (seatIn answer i .step < 10)
+    seats-few i l = rw (known .stands) (digits-few (roundOf file) (sound file (known .accepted)) (known .rest) i (omega (arith, candidates-many)))
+
     pub page-fits : {area : List ℕ} → 8192 ≤ length area → val.Fits w64 offers → ((i : ℕ) → val.Fits w8 (getD answer i 0))
         → Fits area 0 (pageIn offers (h .candidates) (h .institutes) answer)
-    page-fits l few bytes = record { room = omega (arith, page-short answer (λ i. omega (arith, bytes i)) (range .candidates-most) (range .institutes-most) offers (omega arith)) }
+    page-fits l few bytes = record {
+      room = omega (
+        arith,
+        page-short answer (λ i. omega (arith, bytes i)) (range .candidates-most) (range .institutes-most) seats-few offers (omega arith),
+      );
+    }
 
     page-read : pageIn offers (h .candidates) (h .institutes) answer ≡ page (roundOf file)
     page-read =

@@ -28,7 +28,7 @@ refusal-fits number offset l few small = record { room = omega (arith, refusal-s
 
 -- a call with areas for the largest round
 module _ {file answer work answerNow workNow : List ℕ} {told : Answer}
-    (promise : Promise file answer work told answerNow workNow) (long : length answer ≡ 1408) (wide : length work ≡ 4096) where
+    (promise : Promise file answer work told answerNow workNow) (long : length answer ≡ 1920) (wide : length work ≡ 4096) where
   abbrev here : Outcome
   here = outcome file (length answer) (length work)
 

@@ -13,10 +13,11 @@ pub offers-put : {area counted now : List ℕ} {at a behind : ℕ} (offers : ℕ
     → Put area at (named (ascii "offers") offers) counted a → Put counted a (ascii "\n") now behind → Put area at (offersLine offers) now behind
 offers-put offers p q = put-then p q
 
-pub seat-put : {area numbered placed stepped now : List ℕ} {at a b c behind : ℕ} (candidate : ℕ) (s : Seat)
+pub seat-put : {area numbered placed stepped typed now : List ℕ} {at a b c d behind : ℕ} (candidate : ℕ) (s : Seat) (type : ℕ)
     → Put area at (decimal candidate) numbered a → Put numbered a (nextNumber (s .institute)) placed b
-    → Put placed b (nextNumber (s .step)) stepped c → Put stepped c (ascii "\n") now behind → Put area at (seatLine candidate s) now behind
-seat-put candidate s p q t u = put-then (put-then (put-then p q) t) u
+    → Put placed b (nextNumber (s .step)) stepped c → Put stepped c (nextNumber type) typed d
+    → Put typed d (ascii "\n") now behind → Put area at (seatLine candidate s type) now behind
+seat-put candidate s type p q t u v = put-then (put-then (put-then (put-then p q) t) u) v
 
 pub closing-put : {area told closed now : List ℕ} {at a b behind : ℕ} (institute : ℕ) (place : ℕ → ℕ)
     → Put area at (named (ascii "closing") institute) told a → Put told a (sixPlaces place) closed b
@@ -28,18 +29,18 @@ pub refusal-put : {area numbered placed now : List ℕ} {at a b behind : ℕ} (n
     → Put placed b (ascii "\n") now behind → Put area at (refusedLine number offset) now behind
 refusal-put number offset p q t = put-then (put-then p q) t
 
--- a page is the offers, the seats and the closing places; where there is room for it, there is for each of them
+-- a page is the offers, the seats with the types and the closing places; where there is room for it, there is for each of them
 module _ (offers candidates institutes : ℕ) (answer : List ℕ) {area : List ℕ} {at : ℕ} where
   pub offers-fit : Fits area at (pageIn offers candidates institutes answer) → Fits area at (offersLine offers)
   unfolding pageIn
-  offers-fit room = fits-first (offersLine offers) _ (fits-first (offersLine offers ++ seatLines answer candidates) _ room)
+  offers-fit room = fits-first (offersLine offers) _ (fits-first (offersLine offers ++ seatLines answer candidates institutes) _ room)
 
   module _ {counted : List ℕ} {a : ℕ} (p : Put area at (offersLine offers) counted a) where
-    pub seats-fit : Fits area at (pageIn offers candidates institutes answer) → Fits counted a (seatLines answer candidates)
+    pub seats-fit : Fits area at (pageIn offers candidates institutes answer) → Fits counted a (seatLines answer candidates institutes)
     unfolding pageIn
-    seats-fit room = fits-then _ (fits-first (offersLine offers ++ seatLines answer candidates) _ room) p
+    seats-fit room = fits-then _ (fits-first (offersLine offers ++ seatLines answer candidates institutes) _ room) p
 
-    module _ {seated : List ℕ} {b : ℕ} (q : Put counted a (seatLines answer candidates) seated b) where
+    module _ {seated : List ℕ} {b : ℕ} (q : Put counted a (seatLines answer candidates institutes) seated b) where
       pub closings-fit : Fits area at (pageIn offers candidates institutes answer) → Fits seated b (closingLines answer candidates institutes)
       unfolding pageIn
       closings-fit room = fits-then _ room (put-then p q)

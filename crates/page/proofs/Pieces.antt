@@ -31,40 +31,39 @@ pub places-put : (answer : List ℕ) (from : ℕ) {page now : List ℕ} {at behi
 unfolding sixPlaces
 places-put answer from p l m = put-all (placeText answer from) p l m
 
--- the line of a seat that stands in an answer area
-abbrev seatText : List ℕ → ℕ → List ℕ
-seatText answer i = seatLine (i + 1) (seatIn answer i)
+-- the line of a seat that stands in an answer area, where the types stand from a byte on
+abbrev pub seatText : List ℕ → ℕ → ℕ → List ℕ
+seatText answer types i = seatLine (i + 1) (seatIn answer i) (getD answer (types + i) 0)
 
-pub no-seats : (answer page : List ℕ) (at : ℕ) → Put page at (seatLines answer 0) page at
-unfolding seatLines
-no-seats answer page at = put-none page at
-
-module _ (answer : List ℕ) (i : ℕ) {institute step : ℕ} (first : institute ≡ getD answer (2 * i) 0) (second : step ≡ getD answer (2 * i + 1) 0) where
-  seat-here : seatLine (i + 1) (record { institute = institute; step = step }) ≡ seatText answer i
+module _ (answer : List ℕ) (types i : ℕ) {institute step type : ℕ} (first : institute ≡ getD answer (2 * i) 0) (second : step ≡ getD answer (2 * i + 1) 0)
+    (third : type ≡ getD answer (types + i) 0) where
+  seat-here : seatLine (i + 1) (record { institute = institute; step = step }) type ≡ seatText answer types i
   unfolding seatIn
-  seat-here = rw (first, second)
+  seat-here = rw (first, second, third)
 
-  pub seat-room : {page : List ℕ} {at : ℕ} → Fits page at (seatText answer i) → Fits page at (seatLine (i + 1) (record { institute = institute; step = step }))
+  pub seat-room : {page : List ℕ} {at : ℕ} → Fits page at (seatText answer types i)
+      → Fits page at (seatLine (i + 1) (record { institute = institute; step = step }) type)
   seat-room room = rw seat-here room
 
-  pub seat-put : {page now : List ℕ} {at behind : ℕ} → Put page at (seatLine (i + 1) (record { institute = institute; step = step })) now behind
-      → Put page at (seatText answer i) now behind
+  pub seat-put : {page now : List ℕ} {at behind : ℕ} → Put page at (seatLine (i + 1) (record { institute = institute; step = step }) type) now behind
+      → Put page at (seatText answer types i) now behind
   seat-put p = rw seat-here at p
 
-pub seat-fits : (answer : List ℕ) (i : ℕ) {page mid : List ℕ} {at next n : ℕ} → Fits page at (seatLines answer n) → i < n
-    → Put page at (seatLines answer i) mid next → Fits mid next (seatText answer i)
-unfolding seatLines
-seat-fits answer i {n = n} room l p = fits-piece (seatText answer) n i l room p
+pub seat-more : (answer : List ℕ) (types i : ℕ) {page mid now : List ℕ} {at next behind : ℕ} → Put page at (joined (tabulate i (seatText answer types))) mid next
+    → Put mid next (seatText answer types i) now behind → Put page at (joined (tabulate (i + 1) (seatText answer types))) now behind
+seat-more answer types i p q = put-piece (seatText answer types) i p q
 
-pub seat-more : (answer : List ℕ) (i : ℕ) {page mid now : List ℕ} {at next behind : ℕ} → Put page at (seatLines answer i) mid next
-    → Put mid next (seatText answer i) now behind → Put page at (seatLines answer (i + 1)) now behind
-unfolding seatLines
-seat-more answer i p q = put-piece (seatText answer) i p q
+-- the types stand behind the seats and the closing places
+module _ (answer : List ℕ) {types : ℕ} (candidates institutes : ℕ) (behind-both : types ≡ 2 * candidates + 12 * institutes) where
+  pub seat-fits : (i : ℕ) {page mid : List ℕ} {at next : ℕ} → Fits page at (seatLines answer candidates institutes) → i < candidates
+      → Put page at (joined (tabulate i (seatText answer types))) mid next → Fits mid next (seatText answer types i)
+  unfolding seatLines
+  seat-fits i room l p = fits-piece (seatText answer types) candidates i l (rw behind-both room) p
 
-pub seats-put : (answer : List ℕ) {page now : List ℕ} {at behind i n : ℕ} → Put page at (seatLines answer i) now behind
-    → i ≤ n → n ≤ i → Put page at (seatLines answer n) now behind
-unfolding seatLines
-seats-put answer p l m = put-all (seatText answer) p l m
+  pub seats-put : {page now : List ℕ} {at behind i : ℕ} → Put page at (joined (tabulate i (seatText answer types))) now behind
+      → i ≤ candidates → candidates ≤ i → Put page at (seatLines answer candidates institutes) now behind
+  unfolding seatLines
+  seats-put p l m = rw behind-both at (put-all (seatText answer types) p l m)
 
 -- the line of an institute whose closing places stand in an answer area
 abbrev closingText : List ℕ → ℕ → ℕ → List ℕ

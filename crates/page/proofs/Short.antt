@@ -5,7 +5,7 @@ use native.Mathlib.Omega.{arith}
 use lib.ListN.{length, getD, length-append}
 use Rattle.round.proofs.Joined.{joined-short}
 use Rattle.offers.specs.Process.{Seat}
-use Rattle.allotment.specs.Areas.{seatIn}
+use Rattle.allotment.specs.Areas.{seatIn, typeStanding}
 use Rattle.text.specs.Ascii.{ascii}
 use Rattle.text.specs.Decimal.{decimal, nextNumber, named}
 use Rattle.text.proofs.Decimals.{decimal-short}
@@ -29,16 +29,18 @@ refusal-short number offset l m =
       digits-20 offset m,
     )
 
-seat-short : (candidate : ℕ) (s : Seat) → candidate < 1000 → s .institute < 256 → s .step < 256 → length (seatLine candidate s) ≤ 12
-seat-short candidate s l m o =
+seat-short : (candidate : ℕ) (s : Seat) (type : ℕ) → candidate < 1000 → s .institute < 100 → s .step < 10 → type < 256 → length (seatLine candidate s type) ≤ 13
+seat-short candidate s type l m o t =
     omega (
       arith,
-      length-append (decimal candidate ++ nextNumber (s .institute) ++ nextNumber (s .step)) (ascii "\n"),
+      length-append (decimal candidate ++ nextNumber (s .institute) ++ nextNumber (s .step) ++ nextNumber type) (ascii "\n"),
+      length-append (decimal candidate ++ nextNumber (s .institute) ++ nextNumber (s .step)) (nextNumber type),
       length-append (decimal candidate ++ nextNumber (s .institute)) (nextNumber (s .step)),
       length-append (decimal candidate) (nextNumber (s .institute)),
       decimal-short 2 candidate (omega arith),
-      decimal-short 2 (s .institute) (omega arith),
-      decimal-short 2 (s .step) (omega arith),
+      decimal-short 1 (s .institute) (omega arith),
+      decimal-short 0 (s .step) (omega arith),
+      decimal-short 2 type (omega arith),
     )
 
 -- an answer area holds bytes
@@ -60,10 +62,16 @@ module _ (answer : List ℕ) (bytes : (i : ℕ) → getD answer i 0 < 256) where
         places-short from,
       )
 
-  module _ {candidates institutes : ℕ} (n : candidates ≤ 512) (m : institutes ≤ 32) where
-    seats-short : length (seatLines answer candidates) ≤ 12 * candidates
+  -- the institute and the step of a seat have few digits
+  module _ {candidates institutes : ℕ} (n : candidates ≤ 512) (m : institutes ≤ 32)
+      (few : (i : ℕ) → i < candidates → (seatIn answer i .institute < 100) × (seatIn answer i .step < 10)) where
+    seats-short : length (seatLines answer candidates institutes) ≤ 13 * candidates
     unfolding seatLines seatIn
-    seats-short = joined-short 12 candidates (λ i. seatLine (i + 1) (seatIn answer i)) (λ i l. seat-short (i + 1) (seatIn answer i) (omega arith) (bytes (2 * i)) (bytes (2 * i + 1)))
+    seats-short =
+        joined-short 13 candidates (λ i. seatLine (i + 1) (seatIn answer i) (typeStanding candidates institutes answer i))
+        (λ i l.
+        seat-short (i + 1) (seatIn answer i) (typeStanding candidates institutes answer i) (omega arith) (few i l .0) (few i l .1)
+        (bytes (2 * candidates + 12 * institutes + i)))
 
     closings-short : length (closingLines answer candidates institutes) ≤ 47 * institutes
     unfolding closingLines
@@ -74,8 +82,8 @@ module _ (answer : List ℕ) (bytes : (i : ℕ) → getD answer i 0 < 256) where
     page-short offers l =
         omega (
           arith,
-          length-append (offersLine offers ++ seatLines answer candidates) (closingLines answer candidates institutes),
-          length-append (offersLine offers) (seatLines answer candidates),
+          length-append (offersLine offers ++ seatLines answer candidates institutes) (closingLines answer candidates institutes),
+          length-append (offersLine offers) (seatLines answer candidates institutes),
           offers-short offers l,
           seats-short,
           closings-short,

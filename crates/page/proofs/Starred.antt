@@ -1,5 +1,6 @@
--- The starred rounds of document 01, "Worked rounds", with the closing places of document 02, Point 1: one table of file bytes, what a call on them gives and what is printed, and one theorem,
--- computed on the definitions from the bytes to the answer, both areas and the text.
+-- The starred rounds of document 01, "Worked rounds", with the closing places and types of document 02, Points 1 and 3: one table of file bytes,
+-- what a call on them gives and what is printed, and one theorem, computed on the definitions from the bytes to the answer, both areas and the
+-- text.
 use Prim.Native.Nat.{ℕ}
 use Prim.Native.String.{String}
 use mathlib.Core.Path.{_≡_, refl}
@@ -11,12 +12,14 @@ use Rattle.round.specs.Refusal.{verdict, verdictFrom}
 use Rattle.round.specs.Reading.{stepIn, dereserved, stepsIn, entryIn, candidateIn, instituteFrom, roundOf}
 use Rattle.round.specs.Lists.{greatest, joined}
 use Rattle.choice.specs.Use.{holds, oneLess, useOf}
+use Rattle.choice.specs.Gathers.{gathered}
+use Rattle.choice.specs.FirstPlacing.{suits, firstPlacing, typesOf}
 use Rattle.choice.specs.Step.{raises, takenBefore, takenForUse, remaining, takenByMerit, taken}
 use Rattle.choice.specs.Choice.{considers, positionsAt, takenAt, vacantAt, advance, advanceAll, nothingDone, choose}
 use Rattle.choice.specs.Account.{accountAt, accountFrom, account, closingPlace}
 use Rattle.offers.specs.Rows.{rankIn}
 use Rattle.offers.specs.Offers.{placeOn, stepsOn, accountOn}
-use Rattle.offers.specs.Process.{madeTo, chosen, seatBy, seatsAfter, mayOffer, turn, turns, tried, offersMade, seats, accountAtEnd}
+use Rattle.offers.specs.Process.{madeTo, chosen, seatBy, seatsAfter, mayOffer, turn, turns, tried, offersMade, seats, accountAtEnd, typeBy, typesUsed}
 use Rattle.allotment.specs.Areas.{wordBytes, closingPlaces, closingBytes, answerBytes}
 use Rattle.allotment.specs.Outcome.{Outcome, allotted, refused, outcome, answerAfter, workAfter}
 use Rattle.text.specs.Ascii.{ascii}
@@ -139,11 +142,11 @@ seat institute step = institute ∷ step ∷ []
 abbrev overwritten : Bytes → ℕ → Bytes
 overwritten bytes size = bytes ++ drop (length bytes) (lent size)
 
--- allotted: so many offers, each candidate's seat, the one institute's closing places; 8 work bytes a candidate are 0
-abbrev allots : ℕ → List Bytes → List ℕ → String → Call
-allots offers list closing text = record {
+-- allotted: so many offers, each candidate's seat, the one institute's closing places, each candidate's type; 8 work bytes a candidate are 0
+abbrev allots : ℕ → List Bytes → List ℕ → List ℕ → String → Call
+allots offers list closing types text = record {
   answer = allotted offers;
-  answerArea = overwritten (joined list ++ joined (map wordBytes closing)) 24;
+  answerArea = overwritten (joined list ++ joined (map wordBytes closing) ++ types) 24;
   workArea = overwritten (joined (map (λ s. replicate 8 0) list)) 32;
   text = ascii text;
 }
@@ -162,25 +165,25 @@ shows records expected = record { file = joined records; expected = expected }
 abbrev table : List Case
 table =
     -- A
-    shows (headOfA ∷ instituteOfA ∷ generalOpen ∷ obcBoth ∷ markedOpen ∷ meritOfA ∷ []) (allots 4 (seat 0 0 ∷ seat 1 4 ∷ seat 1 1 ∷ []) (0 ∷ 0 ∷ 0 ∷ 2 ∷ 0 ∷ 0 ∷ []) "offers 4\n1 0 0\n2 1 4\n3 1 1\nclosing 1 0 0 0 2 0 0\n")
+    shows (headOfA ∷ instituteOfA ∷ generalOpen ∷ obcBoth ∷ markedOpen ∷ meritOfA ∷ []) (allots 4 (seat 0 0 ∷ seat 1 4 ∷ seat 1 1 ∷ []) (0 ∷ 0 ∷ 0 ∷ 2 ∷ 0 ∷ 0 ∷ []) (0 ∷ 0 ∷ 1 ∷ []) "offers 4\n1 0 0 0\n2 1 4 0\n3 1 1 1\nclosing 1 0 0 0 2 0 0\n")
     ∷
     -- A with candidate 2 listing only open
-    shows (headOfA ∷ instituteOfA ∷ generalOpen ∷ obcOpen ∷ markedOpen ∷ meritOfA ∷ []) (allots 3 (seat 1 6 ∷ seat 0 0 ∷ seat 1 1 ∷ []) (0 ∷ 0 ∷ 0 ∷ 0 ∷ 0 ∷ 1 ∷ []) "offers 3\n1 1 6\n2 0 0\n3 1 1\nclosing 1 0 0 0 0 0 1\n")
+    shows (headOfA ∷ instituteOfA ∷ generalOpen ∷ obcOpen ∷ markedOpen ∷ meritOfA ∷ []) (allots 3 (seat 1 6 ∷ seat 0 0 ∷ seat 1 1 ∷ []) (0 ∷ 0 ∷ 0 ∷ 0 ∷ 0 ∷ 1 ∷ []) (0 ∷ 0 ∷ 1 ∷ []) "offers 3\n1 1 6 0\n2 0 0 0\n3 1 1 1\nclosing 1 0 0 0 0 0 1\n")
     ∷
     -- the same under policy 0
-    shows (underPolicy0 ∷ instituteOfA ∷ generalOpen ∷ obcOpen ∷ markedOpen ∷ meritOfA ∷ []) (allots 3 (seat 0 0 ∷ seat 0 0 ∷ seat 1 1 ∷ []) (0 ∷ 0 ∷ 0 ∷ 0 ∷ 0 ∷ 0 ∷ []) "offers 3\n1 0 0\n2 0 0\n3 1 1\nclosing 1 0 0 0 0 0 0\n")
+    shows (underPolicy0 ∷ instituteOfA ∷ generalOpen ∷ obcOpen ∷ markedOpen ∷ meritOfA ∷ []) (allots 3 (seat 0 0 ∷ seat 0 0 ∷ seat 1 1 ∷ []) (0 ∷ 0 ∷ 0 ∷ 0 ∷ 0 ∷ 0 ∷ []) (0 ∷ 0 ∷ 1 ∷ []) "offers 3\n1 0 0 0\n2 0 0 0\n3 1 1 1\nclosing 1 0 0 0 0 0 0\n")
     ∷
     -- open 2, one position each for types 1 and 2; merit 1, 2, 3 with types {1,2}, {1}, {2}
-    shows (headOfTypes ∷ instituteOfTypes ∷ bothTypes ∷ markedOpen ∷ secondType ∷ meritOfA ∷ []) (allots 3 (seat 1 1 ∷ seat 1 1 ∷ seat 0 0 ∷ []) (0 ∷ 0 ∷ 0 ∷ 0 ∷ 0 ∷ 0 ∷ []) "offers 3\n1 1 1\n2 1 1\n3 0 0\nclosing 1 0 0 0 0 0 0\n")
+    shows (headOfTypes ∷ instituteOfTypes ∷ bothTypes ∷ markedOpen ∷ secondType ∷ meritOfA ∷ []) (allots 3 (seat 1 1 ∷ seat 1 1 ∷ seat 0 0 ∷ []) (0 ∷ 0 ∷ 0 ∷ 0 ∷ 0 ∷ 0 ∷ []) (2 ∷ 1 ∷ 0 ∷ []) "offers 3\n1 1 1 2\n2 1 1 1\n3 0 0 0\nclosing 1 0 0 0 0 0 0\n")
     ∷
     -- one candidate with an empty row
-    shows (headOfOne ∷ oneOpen ∷ emptyRow ∷ meritOfOne ∷ []) (allots 0 (seat 0 0 ∷ []) (0 ∷ 0 ∷ 0 ∷ 0 ∷ 0 ∷ 0 ∷ []) "offers 0\n1 0 0\nclosing 1 0 0 0 0 0 0\n")
+    shows (headOfOne ∷ oneOpen ∷ emptyRow ∷ meritOfOne ∷ []) (allots 0 (seat 0 0 ∷ []) (0 ∷ 0 ∷ 0 ∷ 0 ∷ 0 ∷ 0 ∷ []) (0 ∷ []) "offers 0\n1 0 0 0\nclosing 1 0 0 0 0 0 0\n")
     ∷
     -- one candidate listing open, no positions
-    shows (headOfOne ∷ noPositions ∷ generalOpen ∷ meritOfOne ∷ []) (allots 1 (seat 0 0 ∷ []) (0 ∷ 0 ∷ 0 ∷ 0 ∷ 0 ∷ 0 ∷ []) "offers 1\n1 0 0\nclosing 1 0 0 0 0 0 0\n")
+    shows (headOfOne ∷ noPositions ∷ generalOpen ∷ meritOfOne ∷ []) (allots 1 (seat 0 0 ∷ []) (0 ∷ 0 ∷ 0 ∷ 0 ∷ 0 ∷ 0 ∷ []) (0 ∷ []) "offers 1\n1 0 0 0\nclosing 1 0 0 0 0 0 0\n")
     ∷
     -- one candidate listing open, absent from the merit list, one open position
-    shows (headOfOne ∷ oneOpen ∷ generalOpen ∷ meritOfNone ∷ []) (allots 1 (seat 0 0 ∷ []) (0 ∷ 0 ∷ 0 ∷ 0 ∷ 0 ∷ 0 ∷ []) "offers 1\n1 0 0\nclosing 1 0 0 0 0 0 0\n")
+    shows (headOfOne ∷ oneOpen ∷ generalOpen ∷ meritOfNone ∷ []) (allots 1 (seat 0 0 ∷ []) (0 ∷ 0 ∷ 0 ∷ 0 ∷ 0 ∷ 0 ∷ []) (0 ∷ []) "offers 1\n1 0 0 0\nclosing 1 0 0 0 0 0 0\n")
     ∷
     -- the empty file
     shows ([]) (refuses 1 0 "refused 1 at 0\n")
@@ -206,5 +209,5 @@ table =
     []
 
 pub starred : map (λ c. called (c .file)) table ≡ map (λ c. c .expected) table
-unfolding called startOf questionsAt verdict verdictFrom stepIn dereserved stepsIn entryIn candidateIn instituteFrom roundOf holds oneLess greatest useOf raises takenBefore takenForUse remaining takenByMerit taken considers positionsAt takenAt vacantAt advance advanceAll nothingDone choose accountAt accountFrom account closingPlace rankIn placeOn stepsOn accountOn madeTo chosen seatBy seatsAfter mayOffer turn turns tried offersMade seats accountAtEnd closingPlaces closingBytes answerBytes outcome answerAfter workAfter decimalBy sixPlaces page printed
+unfolding called startOf questionsAt verdict verdictFrom stepIn dereserved stepsIn entryIn candidateIn instituteFrom roundOf holds oneLess greatest useOf raises takenBefore takenForUse remaining takenByMerit taken gathered suits firstPlacing typesOf considers positionsAt takenAt vacantAt advance advanceAll nothingDone choose accountAt accountFrom account closingPlace rankIn placeOn stepsOn accountOn madeTo chosen seatBy seatsAfter mayOffer turn turns tried offersMade seats accountAtEnd typeBy typesUsed closingPlaces closingBytes answerBytes outcome answerAfter workAfter decimalBy sixPlaces page printed
 starred = refl

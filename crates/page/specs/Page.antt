@@ -1,4 +1,4 @@
--- What the program prints for a round file, byte by byte (document 01, "Worked rounds"; document 02, Point 1).
+-- What the program prints for a round file, byte by byte (document 01, "Worked rounds"; document 02, Points 1 and 3).
 use Prim.Native.Nat.{ℕ, _+_}
 use mathlib.Core.List.{List, _++_}
 use lib.ListN.{getD}
@@ -6,7 +6,7 @@ use Rattle.round.specs.Lists.{tabulate, joined}
 use Rattle.round.specs.Round.{Round}
 use Rattle.round.specs.Reading.{roundOf}
 use Rattle.round.specs.Refusal.{Verdict, passes, refused, verdict}
-use Rattle.offers.specs.Process.{Seat, noSeat, candidateCount, instituteCount, offersMade, seats}
+use Rattle.offers.specs.Process.{Seat, noSeat, candidateCount, instituteCount, offersMade, seats, typesUsed}
 use Rattle.allotment.specs.Areas.{closingPlaces}
 use Rattle.text.specs.Ascii.{ascii}
 use Rattle.text.specs.Decimal.{decimal, nextNumber, named}
@@ -15,9 +15,9 @@ use Rattle.text.specs.Decimal.{decimal, nextNumber, named}
 abbrev pub offersLine : ℕ → List ℕ
 offersLine offers = named (ascii "offers") offers ++ ascii "\n"
 
--- candidate, institute, step
-abbrev pub seatLine : ℕ → Seat → List ℕ
-seatLine candidate s = decimal candidate ++ nextNumber (s .institute) ++ nextNumber (s .step) ++ ascii "\n"
+-- candidate, institute, step, type
+abbrev pub seatLine : ℕ → Seat → ℕ → List ℕ
+seatLine candidate s type = decimal candidate ++ nextNumber (s .institute) ++ nextNumber (s .step) ++ nextNumber type ++ ascii "\n"
 
 -- six closing places, each behind a space
 unfoldable pub sixPlaces : (ℕ → ℕ) → List ℕ
@@ -32,12 +32,13 @@ abbrev pub refusedLine : ℕ → ℕ → List ℕ
 refusedLine number offset = named (ascii "refused") number ++ named (ascii " at") offset ++ ascii "\n"
 
 -- the page of a round's allotment: "First the offers; then candidate, institute, step; then for each institute its number and six closing
--- places"
+-- places"; "each candidate line gains the type as its last number"
 unfoldable pub page : Round → List ℕ
 page r =
     let list : List Seat = seats r in
+    let types : List ℕ = typesUsed r in
     offersLine (offersMade r)
-    ++ joined (tabulate (candidateCount r) (λ i. seatLine (i + 1) (getD list i noSeat)))
+    ++ joined (tabulate (candidateCount r) (λ i. seatLine (i + 1) (getD list i noSeat) (getD types i 0)))
     ++ joined (tabulate (instituteCount r) (λ j. let places : List ℕ = closingPlaces r j in closingLine (j + 1) (λ k. getD places k 0)))
 
 abbrev pub printedBy : Verdict → Round → List ℕ

@@ -7,12 +7,13 @@ use Rattle.round.specs.Records.{word}
 use Rattle.round.specs.Reading.{roundOf}
 use Rattle.round.specs.Refusal.{verdict, passes}
 use Rattle.offers.specs.Process.{offersMade}
-use Rattle.allotment.specs.Areas.{seatIn, answerBytes}
+use Rattle.allotment.specs.Areas.{seatIn, typeStanding, answerBytes}
 use Rattle.page.specs.Page.{offersLine, seatLine, closingLine}
 
--- the lines of the seats that stand in an answer area
-unfoldable pub seatLines : List ℕ → ℕ → List ℕ
-seatLines answer candidates = joined (tabulate candidates (λ i. seatLine (i + 1) (seatIn answer i)))
+-- the lines of the seats and types that stand in an answer area
+unfoldable pub seatLines : List ℕ → ℕ → ℕ → List ℕ
+seatLines answer candidates institutes =
+    joined (tabulate candidates (λ i. seatLine (i + 1) (seatIn answer i) (typeStanding candidates institutes answer i)))
 
 -- the closing place of step k, where those of its institute start at a byte
 abbrev pub placeIn : List ℕ → ℕ → ℕ → ℕ
@@ -26,7 +27,7 @@ closingLines answer candidates institutes =
 -- the page that the number of offers and an answer area stand for
 unfoldable pub pageIn : ℕ → ℕ → ℕ → List ℕ → List ℕ
 pageIn offers candidates institutes answer =
-    offersLine offers ++ seatLines answer candidates ++ closingLines answer candidates institutes
+    offersLine offers ++ seatLines answer candidates institutes ++ closingLines answer candidates institutes
 
 -- an accepted file with its number of offers, and an area that starts with its answer
 pub record Answered (file : List ℕ) (offers : ℕ) (answer : List ℕ) : Type 0 where

@@ -13,10 +13,10 @@ ghost use Rattle.page.specs.Page.{page as Page·page, printed};
 ghost use Rattle.page.specs.Reads.{Answered};
 
 // The answer area of the largest round.
-fn answer_room() -> [u8; 1408]
-    ensures { λ r. ⌜ length r ≡ 1408 ⌝ }
+fn answer_room() -> [u8; 1920]
+    ensures { λ r. ⌜ length r ≡ 1920 ⌝ }
 {
-    [0; 1408]
+    [0; 1920]
 }
 
 // The work area of the largest round.

@@ -19,21 +19,23 @@ pub fn put_offers(page: &mut [u8], at: usize, offers: usize) -> usize
     put_line_end(page, counted)
 }
 
-// Candidate, institute, step.
+// Candidate, institute, step, type.
 pub fn put_seat(
     page: &mut [u8],
     at: usize,
     candidate: usize,
     institute: usize,
     step: usize,
+    kind: usize,
 ) -> usize
-    requires { ⌜ Fits (now page) at (seatLine candidate (record { institute = institute; step = step })) ⌝ }
-    ensures { λ r. ⌜ Put (now (page .entry)) at (seatLine candidate (record { institute = institute; step = step })) (now (page .exit)) r ⌝ }
+    requires { ⌜ Fits (now page) at (seatLine candidate (record { institute = institute; step = step }) kind) ⌝ }
+    ensures { λ r. ⌜ Put (now (page .entry)) at (seatLine candidate (record { institute = institute; step = step }) kind) (now (page .exit)) r ⌝ }
 {
     let numbered = put_number(page, at, candidate);
     let placed = put_next(page, numbered, institute);
     let stepped = put_next(page, placed, step);
-    put_line_end(page, stepped)
+    let typed = put_next(page, stepped, kind);
+    put_line_end(page, typed)
 }
 
 // Six closing places of an answer area, from a byte on, each behind a space.

@@ -3,33 +3,41 @@ use crate::lines::put_closing;
 use crate::lines::put_offers;
 use crate::lines::put_seat;
 use round::word::wide;
-ghost use Prim.Native.Nat.{_+_, _*_, _≤_};
-ghost use lib.ListN.{length};
+ghost use Prim.Native.Nat.{_+_, _*_, _≤_, _<_};
+ghost use lib.ListN.{length, getD};
 ghost use Rattle.allotment.specs.Areas.{seatIn};
 ghost use Rattle.text.specs.Put.{Fits, Put};
 ghost use Rattle.page.specs.Page.{seatLine};
 ghost use Rattle.page.specs.Reads.{seatLines, closingLines, pageIn};
 
-// The seat of candidate i, from 0.
-fn put_seat_in(page: &mut [u8], at: usize, answer: &[u8], i: usize) -> usize
-    requires { ⌜ 2 * i + 2 ≤ length (now answer) ⌝ }
-    requires { ⌜ Fits (now page) at (seatLine (i + 1) (seatIn (now answer) i)) ⌝ }
-    ensures { λ r. ⌜ Put (now (page .entry)) at (seatLine (i + 1) (seatIn (now (answer .entry)) i)) (now (page .exit)) r ⌝ }
+// The seat of candidate i, from 0, with the type, where the types stand from a byte on.
+fn put_seat_in(page: &mut [u8], at: usize, answer: &[u8], types: usize, i: usize) -> usize
+    requires { ⌜ (2 * i + 2 ≤ length (now answer)) × (types + i < length (now answer)) ⌝ }
+    requires { ⌜ Fits (now page) at (seatLine (i + 1) (seatIn (now answer) i) (getD (now answer) (types + i) 0)) ⌝ }
+    ensures { λ r. ⌜ Put (now (page .entry)) at (seatLine (i + 1) (seatIn (now (answer .entry)) i) (getD (now (answer .entry)) (types + i) 0)) (now (page .exit)) r ⌝ }
 {
     let institute = wide(answer[2 * i]);
     let step = wide(answer[2 * i + 1]);
-    put_seat(page, at, i + 1, institute, step)
+    let kind = wide(answer[types + i]);
+    put_seat(page, at, i + 1, institute, step, kind)
 }
 
 // A line for each candidate.
-fn put_seats(page: &mut [u8], at: usize, candidates: usize, answer: &[u8]) -> usize
-    requires { ⌜ 2 * candidates ≤ length (now answer) ⌝ }
-    requires { ⌜ Fits (now page) at (seatLines (now answer) candidates) ⌝ }
-    ensures { λ r. ⌜ Put (now (page .entry)) at (seatLines (now (answer .entry)) candidates) (now (page .exit)) r ⌝ }
+fn put_seats(
+    page: &mut [u8],
+    at: usize,
+    candidates: usize,
+    institutes: usize,
+    answer: &[u8],
+) -> usize
+    requires { ⌜ 3 * candidates + 12 * institutes ≤ length (now answer) ⌝ }
+    requires { ⌜ Fits (now page) at (seatLines (now answer) candidates institutes) ⌝ }
+    ensures { λ r. ⌜ Put (now (page .entry)) at (seatLines (now (answer .entry)) candidates institutes) (now (page .exit)) r ⌝ }
 {
+    let types = 2 * candidates + 12 * institutes;
     let mut behind = at;
     for i in 0..candidates {
-        behind = put_seat_in(page, behind, answer, i);
+        behind = put_seat_in(page, behind, answer, types, i);
     }
     behind
 }
@@ -53,7 +61,7 @@ fn put_closings(
     behind
 }
 
-// The offers, the seats, the closing places, from the front.
+// The offers, the seats with the types, the closing places, from the front.
 pub fn put_allotment(
     page: &mut [u8],
     offers: usize,
@@ -61,11 +69,11 @@ pub fn put_allotment(
     institutes: usize,
     answer: &[u8],
 ) -> usize
-    requires { ⌜ 2 * candidates + 12 * institutes ≤ length (now answer) ⌝ }
+    requires { ⌜ 3 * candidates + 12 * institutes ≤ length (now answer) ⌝ }
     requires { ⌜ Fits (now page) 0 (pageIn offers candidates institutes (now answer)) ⌝ }
     ensures { λ r. ⌜ Put (now (page .entry)) 0 (pageIn offers candidates institutes (now (answer .entry))) (now (page .exit)) r ⌝ }
 {
     let counted = put_offers(page, 0, offers);
-    let seated = put_seats(page, counted, candidates, answer);
+    let seated = put_seats(page, counted, candidates, institutes, answer);
     put_closings(page, seated, candidates, institutes, answer)
 }

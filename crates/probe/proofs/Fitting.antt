@@ -1,4 +1,4 @@
--- What it says that lengths fit together, and what the steps and the notes of use are where they do and where they do not.
+-- What it says that lengths fit together, and what the steps and the types used are where they do and where they do not.
 -- Assumes nothing.
 use Prim.Native.Nat.{ℕ, _+_, _*_}
 use mathlib.Core.Path.{_≡_, ap, _∙_}
@@ -13,18 +13,18 @@ use Rattle.round.specs.Rules.{rulesIn, RulesRead}
 use Rattle.round.proofs.Words.{and-fst, and-snd}
 use Rattle.choice.specs.Offers.{offeredBy, Places}
 use Rattle.choice.specs.Choice.{choose}
-use Rattle.choice.specs.Account.{account, usesIn}
+use Rattle.choice.specs.Account.{account, typesIn}
 use Rattle.probe.specs.Probe.{fitting, Chosen}
 
-module _ (body : List ℕ) (types policy : ℕ) (marks offers steps uses : List ℕ) where
-  pub fitted : fitting types (length body) (length marks) (length offers) (length steps) (length uses) ≡ true → InstituteBody types body × Places marks offers steps uses
+module _ (body : List ℕ) (types policy : ℕ) (marks offers steps used : List ℕ) where
+  pub fitted : fitting types (length body) (length marks) (length offers) (length steps) (length used) ≡ true → InstituteBody types body × Places marks offers steps used
   fitted e =
       let a = leb types 8 in
       let b = eqb (length body) (10 + 10 * types) in
       let c = leb (length marks) 512 in
       let d = eqb (length offers) (length marks) in
       let f = eqb (length steps) (length marks) in
-      let g = eqb (length uses) (length marks) in
+      let g = eqb (length used) (length marks) in
       let bg : (b && (c && (d && (f && g)))) ≡ true = and-snd a (b && (c && (d && (f && g)))) e in
       let cg : (c && (d && (f && g))) ≡ true = and-snd b (c && (d && (f && g))) bg in
       let dg : (d && (f && g)) ≡ true = and-snd c (d && (f && g)) cg in
@@ -37,19 +37,19 @@ module _ (body : List ℕ) (types policy : ℕ) (marks offers steps uses : List 
           few = leb-true (length marks) 512 (and-fst c (d && (f && g)) cg);
           offers-each = eqb-true (length offers) (length marks) (and-fst d (f && g) dg);
           steps-each = eqb-true (length steps) (length marks) (and-fst f g fg);
-          uses-each = eqb-true (length uses) (length marks) (and-snd f g fg);
+          used-each = eqb-true (length used) (length marks) (and-snd f g fg);
         },
       )
 
-  -- the steps and notes of the rules that the body gives
-  pub chosen : {steps' uses' : List ℕ} (table : List ℕ) (count : ℕ) → fitting types (length body) (length marks) (length offers) (length steps) (length uses) ≡ true
+  -- the steps and types of the rules that the body gives
+  pub chosen : {steps' used' : List ℕ} (table : List ℕ) (count : ℕ) → fitting types (length body) (length marks) (length offers) (length steps) (length used) ≡ true
       → RulesRead types policy body table count
-      → (steps' ≡ choose marks (offeredBy offers) (rulesIn types count table)) × (uses' ≡ usesIn (length marks) (account marks (offeredBy offers) (rulesIn types count table)))
-      → Chosen body types policy marks offers steps uses steps' uses'
+      → (steps' ≡ choose marks (offeredBy offers) (rulesIn types count table)) × (used' ≡ typesIn (length marks) (account marks (offeredBy offers) (rulesIn types count table)))
+      → Chosen body types policy marks offers steps used steps' used'
   chosen table count e r c = record {
     stepsNow = rw e (c .0 ∙ ap (choose marks (offeredBy offers)) (r .rules-of));
-    usesNow = rw e (c .1 ∙ ap (λ (rules : List StepRule). usesIn (length marks) (account marks (offeredBy offers) rules)) (r .rules-of));
+    usedNow = rw e (c .1 ∙ ap (λ (rules : List StepRule). typesIn (length marks) (account marks (offeredBy offers) rules)) (r .rules-of));
   }
 
-  pub stay : fitting types (length body) (length marks) (length offers) (length steps) (length uses) ≡ false → Chosen body types policy marks offers steps uses steps uses
-  stay e = record { stepsNow = rw e; usesNow = rw e }
+  pub stay : fitting types (length body) (length marks) (length offers) (length steps) (length used) ≡ false → Chosen body types policy marks offers steps used steps used
+  stay e = record { stepsNow = rw e; usedNow = rw e }

@@ -31,9 +31,9 @@ pub extern "C" fn tazbilk_verdict(file: &[u8], result: &mut [u64; 2])
     }
 }
 
-// Whether the lengths fit together: those of a body with so many types, of at most 512 places, and of the offers, steps and notes of use.
-fn fits(types: usize, body: usize, places: usize, offers: usize, steps: usize, uses: usize) -> bool
-    ensures { λ r. ⌜ r ≡ fitting types body places offers steps uses ⌝ }
+// Whether the lengths fit together: those of a body with so many types, of at most 512 places, and of the offers, steps and types used.
+fn fits(types: usize, body: usize, places: usize, offers: usize, steps: usize, used: usize) -> bool
+    ensures { λ r. ⌜ r ≡ fitting types body places offers steps used ⌝ }
 {
     if 8 < types {
         return false;
@@ -50,11 +50,11 @@ fn fits(types: usize, body: usize, places: usize, offers: usize, steps: usize, u
     if steps != places {
         return false;
     }
-    uses == places
+    used == places
 }
 
-// The step of each place by an institute's choice, and whether it is for use, from the marks and the set of offers there; where the lengths
-// do not fit together, nothing happens.
+// The step of each place by an institute's choice, and the type used there, from the marks and the set of offers; where the lengths do not
+// fit together, nothing happens.
 #[no_mangle]
 pub extern "C" fn tazbilk_choose(
     body: &[u8],
@@ -63,10 +63,10 @@ pub extern "C" fn tazbilk_choose(
     marks: &[u8],
     offers: &[u8],
     steps: &mut [u8],
-    uses: &mut [u8],
+    used: &mut [u8],
 )
     ensures { λ _. ⌜ Chosen (now (body .entry)) types policy (now (marks .entry)) (now (offers .entry))
-        (now (steps .entry)) (now (uses .entry)) (now (steps .exit)) (now (uses .exit)) ⌝ }
+        (now (steps .entry)) (now (used .entry)) (now (steps .exit)) (now (used .exit)) ⌝ }
 {
     if fits(
         types,
@@ -74,10 +74,10 @@ pub extern "C" fn tazbilk_choose(
         marks.len(),
         offers.len(),
         steps.len(),
-        uses.len(),
+        used.len(),
     ) {
         let mut rules = rule_table();
         let count = rules_of(body, types, policy, &mut rules);
-        choose(&rules, types, count, marks, offers, steps, uses);
+        choose(&rules, types, count, marks, offers, true, steps, used);
     }
 }

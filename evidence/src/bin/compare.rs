@@ -9,7 +9,7 @@ use std::path::PathBuf;
 use std::process::ExitCode;
 
 const USAGE: &str = "compare [--long] [--seed S] [--only NAMES] [--rounds DIR] [--keep DIR] [--program PATH]
---long runs 200,000 lawful rounds, half of them in other orders, and 1,000,000 damaged files; --seed takes other made files;
+--long runs 275,000 lawful rounds, 119,000 of them in other orders, and 1,000,000 damaged files; --seed takes other made files;
 --only runs the classes whose names begin with one of these, parted by commas; --rounds is the folder of worked rounds; --keep is
 the folder that gets the first differing input of a class; --program is the unit's program, run on files and pipes.";
 
@@ -136,8 +136,9 @@ fn main() -> ExitCode {
     for (name, places, count) in plan::choices(run.long) {
         book.class(name, || run.choices(name, places, count));
     }
-    let stray = if run.long { 20_000 } else { 2_000 };
-    book.class("choose, stray marks", || run.stray(stray));
+    let times = if run.long { 10 } else { 1 };
+    book.class("choose, stray marks", || run.stray(2_000 * times));
+    book.class("choose, types", || run.of_types(8_000 * times));
     book.class(fenced::NAME, || fenced::class(&run, &rounds));
     if let Some(path) = words.program {
         let program = Program {

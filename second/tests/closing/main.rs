@@ -6,7 +6,7 @@ mod tiny;
 mod worked;
 mod wrong;
 
-use naive::by_trying;
+use naive::{by_trying, Tried};
 use second::choice::{Document, Offer, Rule, Taken, Way};
 use second::generate::{lawful_round, Class};
 use second::horizontal::use_of;
@@ -41,7 +41,10 @@ fn larger_rounds() -> impl Iterator<Item = Round> {
 /// The closing places in other words, from all offers ever made.
 fn tried(process: &Process<impl Rule>) -> Vec<[usize; 6]> {
     (0..process.made.len())
-        .map(|institute| by_trying(process.round, institute, &process.made[institute]))
+        .map(|institute| {
+            by_trying(process.round, institute, &process.made[institute])
+                .map(|step| step.by_merit.last().map_or(0, |place| place + 1))
+        })
         .collect()
 }
 
@@ -51,6 +54,36 @@ fn closing_places_are_those_found_by_trying_every_set() {
         let round = tiny(seed);
         let process = ended(&round, &Document);
         assert_eq!(process.allotment().closing, tried(&process), "seed {seed}");
+    }
+}
+
+/// What an institute holds at each step, in the same form as what is found by trying.
+fn held(process: &Process<impl Rule>, institute: usize) -> [Tried; 6] {
+    let places = |step: usize, way: Way| -> Vec<usize> {
+        let merit = &process.round.merit[institute];
+        let taken = |&place: &usize| {
+            process.held[institute].iter().any(|one| {
+                let own = (usize::from(one.step), one.way, one.offer.candidate);
+                own == (step + 1, way, merit[place])
+            })
+        };
+        (0..merit.len()).filter(taken).collect()
+    };
+    std::array::from_fn(|step| Tried {
+        for_use: places(step, Way::ForUse),
+        by_merit: places(step, Way::ByMerit),
+    })
+}
+
+#[test]
+fn those_held_for_use_and_by_merit_are_those_found_by_trying_every_set() {
+    for seed in 0..ROUNDS {
+        let round = tiny(seed);
+        let process = ended(&round, &Document);
+        for institute in 0..round.institutes.len() {
+            let tried = by_trying(&round, institute, &process.made[institute]);
+            assert_eq!(held(&process, institute), tried, "seed {seed}");
+        }
     }
 }
 
@@ -180,7 +213,8 @@ fn caught_by<R: Rule>(rule: &R) -> Vec<String> {
         names.push("trying".to_string());
     }
     for (name, round) in worked() {
-        if ended(&round, rule).allotment() != ended(&round, &Document).allotment() {
+        let due = ended(&round, &Document).allotment();
+        if ended(&round, rule).allotment().closing != due.closing {
             names.push(name);
         }
     }
@@ -197,11 +231,15 @@ fn counting_those_taken_for_use_is_caught() {
             "a-open-only",
             "a-open-only-policy-0",
             "all-for-use",
+            "down-again",
             "every-step",
             "filled-though-marked",
+            "found-by-moving",
             "lowest-for-use",
             "marked-and-rejected",
             "moved-between-types",
+            "no-types-at-6",
+            "pushed-up",
             "rejected-goes-last"
         ]
     );
@@ -217,6 +255,7 @@ fn the_smallest_place_is_caught() {
             "lowest-for-use",
             "marked-by-merit",
             "n-512",
+            "no-types-at-6",
             "step-6-by-merit"
         ]
     );
@@ -232,6 +271,7 @@ fn the_place_of_the_last_by_number_is_caught() {
             "lowest-for-use",
             "marked-by-merit",
             "n-512",
+            "no-types-at-6",
             "step-6-by-merit"
         ]
     );
@@ -243,9 +283,12 @@ fn leaving_out_everybody_marked_is_caught() {
         caught_by(&MarkedLeftOut),
         [
             "trying",
+            "all-eight-types",
+            "equal-marks",
             "filled-though-marked",
             "marked-and-rejected",
             "marked-by-merit",
+            "no-types-at-6",
             "step-6-by-merit"
         ]
     );
@@ -253,5 +296,8 @@ fn leaving_out_everybody_marked_is_caught() {
 
 #[test]
 fn keeping_how_somebody_was_first_taken_is_caught() {
-    assert_eq!(caught_by(&WayKept), ["trying", "marked-by-merit"]);
+    assert_eq!(
+        caught_by(&WayKept),
+        ["trying", "all-eight-types", "marked-by-merit"]
+    );
 }

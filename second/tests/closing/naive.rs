@@ -1,13 +1,20 @@
-//! The closing places in other words, with nothing shared: who is there for use is found by trying every set.
+//! What an institute's steps take, in other words, with nothing shared: who is there for use is found by trying every set.
 
 use second::choice::Offer;
 use second::reading::Round;
 
-/// The closing places of an institute, from a set of offers to it.
-pub fn by_trying(round: &Round, institute: usize, offers: &[Offer]) -> [usize; 6] {
+/// What a step takes, as merit places from 0, best first.
+#[derive(Debug, Default, PartialEq, Eq)]
+pub struct Tried {
+    pub for_use: Vec<usize>,
+    pub by_merit: Vec<usize>,
+}
+
+/// What the six steps of an institute take from a set of offers to it.
+pub fn by_trying(round: &Round, institute: usize, offers: &[Offer]) -> [Tried; 6] {
     let own = &round.institutes[institute];
     let merit = &round.merit[institute];
-    let mut closing = [0; 6];
+    let mut tried: [Tried; 6] = Default::default();
     let mut gone: Vec<usize> = Vec::new();
     let mut vacant = 0;
     for (step, category) in [0, 1, 2, 3, 4, 0].into_iter().enumerate() {
@@ -31,19 +38,19 @@ pub fn by_trying(round: &Round, institute: usize, offers: &[Offer]) -> [usize; 6
             .map(|&place| round.candidates[merit[place]].marks)
             .collect();
         let users = users(&marks, &mut reserved);
-        let (for_use, left): (Vec<usize>, Vec<usize>) =
-            (0..places.len()).partition(|who| users.contains(who));
-        let filled = left.len().min(positions - for_use.len());
-        if filled > 0 {
-            closing[step] = places[left[filled - 1]] + 1;
-        }
+        let for_use: Vec<usize> = users.iter().map(|&who| places[who]).collect();
+        let by_merit: Vec<usize> = places
+            .into_iter()
+            .filter(|place| !for_use.contains(place))
+            .take(positions - for_use.len())
+            .collect();
         if category == 3 {
-            vacant = positions - for_use.len() - filled;
+            vacant = positions - for_use.len() - by_merit.len();
         }
-        gone.extend(for_use.iter().map(|&who| places[who]));
-        gone.extend(left[..filled].iter().map(|&who| places[who]));
+        gone.extend(for_use.iter().chain(&by_merit));
+        tried[step] = Tried { for_use, by_merit };
     }
-    closing
+    tried
 }
 
 /// Of the sets whose members can all be given a reserved position of a type they hold, the largest; of several such, the one that has the better member where two first differ.

@@ -37,7 +37,7 @@ fn list_of_call(round: &Round, random: &mut Random) -> Vec<Option<Seat>> {
         let length = least + random.from_to(0, 4);
         (0..length).map(|_| random.bits() as u8).collect()
     };
-    let mut answer = area(2 * n + 12 * round.institutes.len());
+    let mut answer = area(3 * n + 12 * round.institutes.len());
     let mut work = area(8 * n);
     let outcome = call_on(&write(round), &mut answer, &mut work);
     assert!(matches!(outcome, Outcome::Allotted { .. }));

@@ -183,7 +183,7 @@ pub fn stable<R: Rule + ?Sized>(round: &Round, rule: &R, seats: &[Option<Seat>])
     Ok(())
 }
 
-/// Statement 3: any order of going gives the same offers, seats, steps and closing places.
+/// Statement 3: any order of going gives the same offers, seats, steps, closing places and types.
 pub fn any_order<R: Rule + ?Sized>(round: &Round, rule: &R, random: &mut Random) -> Found {
     let due = ended(round, rule, Order::LowestFirst, 0);
     for _ in 0..8 {

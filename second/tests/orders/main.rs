@@ -245,7 +245,12 @@ fn by(counts: [usize; 6], names: &[&str]) -> ([usize; 6], Vec<String>) {
 
 #[test]
 fn keeping_dereserved_seats_is_caught() {
-    let names = ["called-last-first", "rejected-goes-last", "step-6-by-merit"];
+    let names = [
+        "called-last-first",
+        "no-types-at-6",
+        "rejected-goes-last",
+        "step-6-by-merit",
+    ];
     let due = by([283, 195, 165, 177, 255, 47], &names);
     assert_eq!(caught(&SeatsKept), due);
 }
@@ -256,13 +261,16 @@ fn never_giving_up_whom_it_holds_is_caught() {
         "a",
         "a-open-only",
         "a-open-only-policy-0",
+        "all-eight-types",
         "all-for-use",
         "called-last-first",
+        "down-again",
         "filled-though-marked",
         "lowest-for-use",
         "marked-and-rejected",
         "marked-by-merit",
         "moved-between-types",
+        "no-types-at-6",
         "rejected-goes-last",
         "step-6-by-merit",
         "taken-as-open-not-obc",
@@ -277,32 +285,42 @@ fn choosing_by_who_came_first_is_caught() {
     let names = [
         "a",
         "a-open-only",
+        "all-eight-types",
         "called-last-first",
+        "down-again",
+        "equal-marks",
         "every-step",
         "filled-though-marked",
         "lowest-for-use",
         "marked-and-rejected",
         "marked-by-merit",
         "moved-between-types",
+        "no-types-at-6",
         "rejected-goes-last",
         "step-6-by-merit",
         "taken-as-open-not-obc",
         "type-without-positions",
     ];
-    let due = by([2751, 2002, 1837, 1843, 2537, 519], &names);
+    let due = by([2762, 2012, 1847, 1852, 2550, 519], &names);
     assert_eq!(caught(&ByArrival), due);
 }
 
 #[test]
 fn keeping_the_step_that_first_took_somebody_is_caught() {
-    let names = ["a-open-only", "every-step", "step-6-by-merit"];
+    let names = [
+        "a-open-only",
+        "every-step",
+        "no-types-at-6",
+        "step-6-by-merit",
+    ];
     let due = by([352, 211, 193, 189, 291, 71], &names);
     assert_eq!(caught(&StepKept), due);
 }
 
 #[test]
 fn keeping_how_somebody_was_first_taken_is_caught() {
-    let due = by([216, 131, 118, 121, 189, 40], &["marked-by-merit"]);
+    let names = ["all-eight-types", "equal-marks", "marked-by-merit"];
+    let due = by([242, 144, 132, 136, 214, 40], &names);
     assert_eq!(caught(&WayKept), due);
 }
 
@@ -329,13 +347,13 @@ fn wrong_rules_that_choose_alike_in_any_order_are_not_caught() {
     assert_eq!(caught(&MarkedLeftOut), nowhere);
 }
 
-/// In how many tiny rounds, under a rule, last number first differs from lowest number first in the entries tried, their number, the institutes of the seats, the steps and the closing places.
-fn parts<R: Rule>(rule: &R) -> [usize; 5] {
+/// In how many tiny rounds, under a rule, last number first differs from lowest number first in the entries tried, their number, the institutes of the seats, the steps, the closing places and the types.
+fn parts<R: Rule>(rule: &R) -> [usize; 6] {
     let institutes = |ended: &Ended| -> Vec<Option<usize>> {
         let seats = ended.allotment.seats.iter();
         seats.map(|seat| seat.map(|seat| seat.institute)).collect()
     };
-    let mut counts = [0; 5];
+    let mut counts = [0; 6];
     for seed in 0..ROUNDS {
         let round = tiny(seed);
         let one = ended(&round, rule, Order::LowestFirst, seed);
@@ -346,6 +364,7 @@ fn parts<R: Rule>(rule: &R) -> [usize; 5] {
             institutes(&one) != institutes(&other),
             one.allotment.seats != other.allotment.seats,
             one.allotment.closing != other.allotment.closing,
+            one.allotment.types != other.allotment.types,
         ];
         for (count, differs) in counts.iter_mut().zip(differing) {
             *count += usize::from(differs);
@@ -356,7 +375,7 @@ fn parts<R: Rule>(rule: &R) -> [usize; 5] {
 
 #[test]
 fn each_part_of_the_comparison_catches_something() {
-    assert_eq!(parts(&SeatsKept), [249, 221, 161, 281, 282]);
-    assert_eq!(parts(&StepKept), [0, 0, 0, 352, 352]);
-    assert_eq!(parts(&WayKept), [0, 0, 0, 0, 216]);
+    assert_eq!(parts(&SeatsKept), [249, 221, 161, 281, 282, 110]);
+    assert_eq!(parts(&StepKept), [0, 0, 0, 352, 352, 0]);
+    assert_eq!(parts(&WayKept), [0, 0, 0, 0, 216, 242]);
 }

@@ -1,7 +1,7 @@
 -- The bytes that an accepted call puts into the answer area: how many they are, and what stands at each place.
 use Prim.Native.Nat.{ℕ, suc, _+_, _*_, _/_, _%_, _<_}
 use mathlib.Core.Path.{_≡_, refl, sym, _∙_}
-use mathlib.Core.List.{List, _++_}
+use mathlib.Core.List.{List, _++_, append-assoc}
 use native.Mathlib.Omega.{arith}
 use native.Mathlib.Nat.{add-zero}
 use native.Mathlib.Numerals.{add-one}
@@ -11,9 +11,10 @@ use Rattle.round.specs.Lists.{tabulate, joined}
 use Rattle.round.specs.Round.{Round}
 use Rattle.round.specs.Records.{word}
 use Rattle.round.proofs.Words.{length-tabulate, tabulate-at}
-use Rattle.offers.specs.Process.{noSeat, candidateCount, instituteCount, seats}
-use Rattle.allotment.specs.Areas.{wordBytes, seatBytes, closingPlaces, closingBytes, answerBytes, answerSize, seatIn, seatsIn}
+use Rattle.offers.specs.Process.{noSeat, candidateCount, instituteCount, seats, typesUsed}
+use Rattle.allotment.specs.Areas.{wordBytes, seatBytes, closingPlaces, closingBytes, answerBytes, answerSize, seatIn, seatsIn, typeStanding}
 use Rattle.offers.proofs.Rounds.Bounds.{list-length}
+use Rattle.offers.proofs.Rounds.AccountRound.{types-length}
 use Rattle.allotment.proofs.Files.Pieces.{length-pieces, getD-pieces}
 
 module _ (r : Round) where
@@ -23,9 +24,9 @@ module _ (r : Round) where
   closingPart : List ℕ
   closingPart = joined (tabulate (instituteCount r) (closingBytes r))
 
-  answer-parts : answerBytes r ≡ seatPart ++ closingPart
+  answer-parts : answerBytes r ≡ seatPart ++ (closingPart ++ typesUsed r)
   unfolding answerBytes seatPart closingPart
-  answer-parts = refl
+  answer-parts = append-assoc seatPart closingPart (typesUsed r)
 
   length-seatPart : length seatPart ≡ 2 * candidateCount r
   unfolding seatPart
@@ -40,13 +41,22 @@ module _ (r : Round) where
   length-closingPart = length-pieces 12 (closingBytes r) length-closing (instituteCount r)
 
   pub length-answer : length (answerBytes r) ≡ answerSize r
-  length-answer = rw answer-parts (omega (arith, length-append seatPart closingPart, length-seatPart, length-closingPart))
+  length-answer =
+      rw answer-parts
+      (omega (
+        arith,
+        length-append seatPart (closingPart ++ typesUsed r),
+        length-append closingPart (typesUsed r),
+        length-seatPart,
+        length-closingPart,
+        types-length r,
+      ))
 
   seat-byte : (i k : ℕ) → i < candidateCount r → k < 2 → getD (answerBytes r) (2 * i + k) 0 ≡ getD (seatBytes (getD (seats r) i noSeat)) k 0
   unfolding seatPart
   seat-byte i k l m =
       rw answer-parts
-      (List·getD-append seatPart closingPart 0 (2 * i + k) (omega (arith, length-seatPart))
+      (List·getD-append seatPart _ 0 (2 * i + k) (omega (arith, length-seatPart))
       ∙ getD-pieces 2 (λ i. seatBytes (getD (seats r) i noSeat)) (λ i. refl) (candidateCount r) i k l m)
 
   -- the two bytes of candidate i's seat
@@ -83,8 +93,9 @@ module _ (r : Round) where
   closing-byte j k b l m o =
       let at : 2 * candidateCount r + 12 * j + 2 * k + b ≡ length seatPart + (12 * j + (2 * k + b)) = omega (arith, length-seatPart) in
       rw (answer-parts, at)
-      (getD-append-add seatPart closingPart (12 * j + (2 * k + b)) 0
-      ∙ (getD-pieces 12 (closingBytes r) length-closing (instituteCount r) j (2 * k + b) l (omega arith)
+      (getD-append-add seatPart _ (12 * j + (2 * k + b)) 0
+      ∙ (List·getD-append closingPart (typesUsed r) 0 (12 * j + (2 * k + b)) (omega (arith, length-closingPart))
+      ∙ getD-pieces 12 (closingBytes r) length-closing (instituteCount r) j (2 * k + b) l (omega arith)
       ∙ getD-pieces 2 (λ k. wordBytes (getD (closingPlaces r j) k 0)) (λ k. refl) 6 k b m o))
 
   -- the closing place that stands in an area that starts with the answer bytes
@@ -98,3 +109,12 @@ module _ (r : Round) where
       let second : getD (answerBytes r ++ rest) (suc at) 0 ≡ getD (closingPlaces r j) k 0 / 256 % 256 =
       List·getD-append (answerBytes r) rest 0 (suc at) (omega arith) ∙ (rw add-one at (closing-byte j k 1 l m (omega arith))) in
       omega arith
+
+  -- the type that stands in an area that starts with the answer bytes
+  pub type-stands : (rest : List ℕ) (i : ℕ) → i < candidateCount r
+      → typeStanding (candidateCount r) (instituteCount r) (answerBytes r ++ rest) i ≡ getD (typesUsed r) i 0
+  type-stands rest i l =
+      let at : 2 * candidateCount r + 12 * instituteCount r + i ≡ length seatPart + (length closingPart + i) = omega (arith, length-seatPart, length-closingPart) in
+      List·getD-append (answerBytes r) rest 0 (2 * candidateCount r + 12 * instituteCount r + i) (omega (arith, length-answer))
+      ∙ rw (answer-parts, at)
+      (getD-append-add seatPart (closingPart ++ typesUsed r) (length closingPart + i) 0 ∙ getD-append-add closingPart (typesUsed r) i 0)

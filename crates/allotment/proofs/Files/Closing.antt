@@ -1,16 +1,16 @@
 -- The closing places as they are found by going down the merit list: of each step the largest place so far that it seated by merit.
-use Prim.Native.Nat.{ℕ, suc, _+_, _-_, _<_, _≤_, max}
+use Prim.Native.Nat.{ℕ, zero, suc, _+_, _-_, _<_, _≤_, max}
 use mathlib.Core.Path.{_≡_, refl, sym, ap, _∙_}
 use mathlib.Core.Bool.{Bool, true, false, cond, not, _&&_, and-true, and-false}
 use mathlib.Core.List.{List}
 use native.Mathlib.Omega.{arith}
 use native.Mathlib.Numerals.{add-one}
-use lib.Dec.{eqb}
+use lib.Dec.{eqb, ltb}
 use lib.ListN.{length, getD, replicate, length-set}
 use lib.Seq.{getD-set-same, getD-set-other, ext-getD}
 use mir.Syntax.{w64}
 use mir.Val.{Fits}
-use borrow.Author.Tests.{eq-eqb, ne-eqb}
+use borrow.Author.Tests.{eq-eqb, ne-eqb, lt-ltb}
 use Rattle.round.specs.Lists.{greatest}
 use Rattle.round.specs.Records.{headOf}
 use Rattle.round.specs.Reading.{roundOf}
@@ -20,19 +20,19 @@ use Rattle.round.specs.Access.{MeritKnown}
 use Rattle.round.specs.Sound.{Sound, SoundInstitute}
 use Rattle.round.proofs.Sound.{sound, length-institutes}
 use Rattle.round.proofs.Words.{length-tabulate, tabulate-at}
-use Rattle.choice.specs.Account.{StepAccount, tookByMerit, accountOf, closingPlace, usedIn}
+use Rattle.choice.specs.Account.{StepAccount, tookByMerit, accountOf, closingPlace}
 use Rattle.choice.proofs.Counting.{sameOr}
 use Rattle.choice.proofs.Tabulate.{getD-zeros}
 use Rattle.choice.proofs.Accounts.{merit-long, meritPlace, largest-few, closing-largest}
-use Rattle.offers.specs.Offers.{marksOn, atPlaces, placeOn, accountOn, usedFor}
-use Rattle.offers.specs.Process.{noSeat, candidateCount, instituteCount, madeTo, tried, seats, accountAtEnd}
+use Rattle.offers.specs.Offers.{marksOn, atPlaces, placeOn, accountOn, typeFor}
+use Rattle.offers.specs.Process.{Seat, noSeat, candidateCount, instituteCount, madeTo, tried, seats, accountAtEnd}
 use Rattle.offers.specs.Stable.{stepOf}
 use Rattle.offers.proofs.Rounds.Places.{place-of}
 use Rattle.offers.proofs.Rounds.Bounds.{merit-short, list-length}
 use Rattle.offers.proofs.Rounds.Agreed.{merit-marks, step-number}
 use Rattle.offers.proofs.Rounds.Process.{tried-running}
 use Rattle.offers.proofs.Rounds.Given.{step-given}
-use Rattle.offers.proofs.Rounds.AccountRound.{merit-seated}
+use Rattle.offers.proofs.Rounds.AccountRound.{merit-seated, used-typed, types-seated, types-length}
 use Rattle.allotment.specs.Areas.{closingPlaces}
 use Rattle.allotment.specs.Writing.{seatHeld, seatsHeld, meritStep, withPlace, ClosingKnown}
 
@@ -109,10 +109,11 @@ module _ (r : Round) (j : ℕ) where
             (c .at k l ∙ omega arith));
       }
 
--- a step with a number that is not 0, where it is not for use
-by-use : (used : Bool) (step number : ℕ) → (number ≡ 0 → ⊥) → (eqb step number && not used) ≡ eqb (cond (eqb (cond used 1 0) 0) step 0) number
-by-use true step number d = and-false (eqb step number) ∙ sym (ne-eqb 0 number (λ z. d (sym z)))
-by-use false step number d = and-true (eqb step number)
+-- a step with a number that is not 0, where it uses no type
+without-type : (type step number : ℕ) → (number ≡ 0 → ⊥) → (eqb step number && not (ltb 0 type)) ≡ eqb (cond (eqb type 0) step 0) number
+without-type zero step number d = and-true (eqb step number)
+without-type (suc type) step number d =
+    rw (lt-ltb 0 (suc type) (omega arith), ne-eqb (suc type) 0 (λ z. omega arith)) (and-false (eqb step number) ∙ sym (ne-eqb 0 number (λ z. d (sym z))))
 
 part-of : (a b : Bool) (x : ℕ) → cond a (cond b x 0) 0 ≤ cond a x 0
 part-of true true x = omega arith
@@ -120,7 +121,7 @@ part-of true false x = omega arith
 part-of false b x = omega arith
 
 -- what stands on the merit list of an institute of an accepted file: a number, and the step that seated its candidate by merit
-module _ {file merits holders steps uses : List ℕ} {j : ℕ} (known : ClosingKnown file merits holders steps uses) (below : j < headOf file .institutes) where
+module _ {file merits holders steps types : List ℕ} {j : ℕ} (known : ClosingKnown file merits holders steps types) (below : j < headOf file .institutes) where
   abbrev r : Round
   r = roundOf file
 
@@ -162,8 +163,8 @@ module _ {file merits holders steps uses : List ℕ} {j : ℕ} (known : ClosingK
     pub step-there : number - 1 < length steps
     step-there = omega (arith, there, known .list .steps-many, list-length r)
 
-    pub use-there : number - 1 < length uses
-    use-there = omega (arith, there, known .noted .many)
+    pub type-there : number - 1 < length types
+    type-there = omega (arith, there, ap length (known .typed), types-length r)
 
     place-there : placeOn r j (number - 1) ≡ p
     place-there = ap (λ n. placeOn r j (n - 1)) read ∙ place-of r j listing p on
@@ -173,33 +174,38 @@ module _ {file merits holders steps uses : List ℕ} {j : ℕ} (known : ClosingK
     unfolding stepOf
     seated-there = rw (known .list .seat (number - 1) (omega (arith, there, list-length r)))
 
+    -- the type of a candidate whom the institute holds is the one that it uses
+    typed-there : getD holders (number - 1) 0 ≡ suc j → getD types (number - 1) 0 ≡ typeFor r j (madeTo r (tried r) j) (number - 1)
+    typed-there e =
+        let seat = known .list .seat (number - 1) (omega (arith, there, list-length r)) in
+        ap (λ (t : List ℕ). getD t (number - 1) 0) (known .typed) ∙ types-seated lawful j inside (number - 1) there (ap (λ (s : Seat). s .institute) seat ∙ e)
+
     -- whom the step seated by merit
-    took-there : (k : ℕ) → tookByMerit (stepAtEnd r j k) p ≡ eqb (meritStep holders steps uses (suc j) (number - 1)) (suc k)
-    unfolding usedFor accountAtEnd
+    took-there : (k : ℕ) → tookByMerit (stepAtEnd r j k) p ≡ eqb (meritStep holders steps types (suc j) (number - 1)) (suc k)
     took-there k =
         let c = number - 1 in
         ap (λ q. tookByMerit (stepAtEnd r j k) q) (sym place-there)
         ∙ merit-seated lawful j inside c k there (omega (arith, place-there))
         ∙ rw seated-there
         (sameOr (getD holders c 0) (suc j)
-        (λ e. rw (e, eq-eqb (suc j) (suc j) refl, known .noted .noted c j there inside e) (by-use (usedIn (accountAtEnd r j) (placeOn r j c)) (getD steps c 0) (suc k) (λ z. omega arith)))
+        (λ e. rw (e, eq-eqb (suc j) (suc j) refl, typed-there e, used-typed lawful j inside c (omega (arith, place-there))) (without-type (typeFor r j (madeTo r (tried r) j) c) (getD steps c 0) (suc k) (λ z. omega arith)))
         (λ d. rw (ne-eqb (getD holders c 0) (suc j) d, ne-eqb 0 (suc k) (λ z. omega arith))))
 
-    few-there : meritStep holders steps uses (suc j) (number - 1) ≤ 6
+    few-there : meritStep holders steps types (suc j) (number - 1) ≤ 6
     unfolding seats
     few-there =
         let c = number - 1 in
         omega (
           arith,
-          part-of (eqb (getD holders c 0) (suc j)) (eqb (getD uses c 0) 0) (getD steps c 0),
+          part-of (eqb (getD holders c 0) (suc j)) (eqb (getD types c 0) 0) (getD steps c 0),
           seated-there,
           step-given lawful (tried-running lawful) c j there inside,
           step-number r j (madeTo r (tried r) j) c,
           listing .steps-most,
         )
 
-    module _ {step : ℕ} (told : step ≡ meritStep holders steps uses (j + 1) (number - 1)) where
-      told-there : step ≡ meritStep holders steps uses (suc j) (number - 1)
+    module _ {step : ℕ} (told : step ≡ meritStep holders steps types (j + 1) (number - 1)) where
+      told-there : step ≡ meritStep holders steps types (suc j) (number - 1)
       told-there = told ∙ rw add-one
 
       pub step-few : {places : List ℕ} → ClosedTo (roundOf file) j p places → step ≤ length places

@@ -1,5 +1,5 @@
--- The whole promise of a call from its answer and both areas: every sound round is stable and truthful, its process ends, and any order of
--- offers ends alike.
+-- The whole promise of a call from its answer and both areas: every sound round is stable and truthful, its process ends, any order of offers
+-- ends alike, and its types are those of the first placings.
 use Prim.Native.Nat.{ℕ, _<_}
 use mathlib.Core.Path.{_≡_}
 use mathlib.Core.List.{List}
@@ -15,6 +15,7 @@ use Rattle.offers.proofs.Rounds.StableRound.{round-stable}
 use Rattle.offers.proofs.Rounds.TruthfulRound.{round-truthful}
 use Rattle.offers.proofs.Rounds.AtEnd.{at-end}
 use Rattle.offers.proofs.Rounds.AnyOrder.{any-order-ends}
+use Rattle.offers.proofs.Rounds.FirstTypes.{types-first}
 use Rattle.allotment.specs.declared.Answer.{Answer}
 use Rattle.allotment.specs.Areas.{seatsIn}
 use Rattle.allotment.specs.Outcome.{outcomeOf, outcome, answerAfter, workAfter, Accepted}
@@ -53,4 +54,5 @@ promised file answer work result answerNow workNow told seen cleared = record {
   stable = λ accepted. rw seen (stable file answer work accepted);
   process = λ accepted. at-end (accepted-sound file answer work accepted);
   anyOrder = λ accepted. any-order-ends (accepted-sound file answer work accepted);
+  types = λ accepted. types-first (roundOf file);
 }

@@ -2,10 +2,11 @@
 use Prim.Native.Nat.{ℕ, _+_, _*_, _<_, _≤_}
 use mathlib.Core.Path.{_≡_, refl, sym, ap, _∙_}
 use mathlib.Core.List.{List}
+use native.Mathlib.Omega.{arith}
 use native.Mathlib.Nat.{zero-add}
 use native.Mathlib.Numerals.{add-one}
-use lib.ListN.{length, getD, set}
-use lib.Seq.{sets}
+use lib.ListN.{length, getD, set, take}
+use lib.Seq.{sets, take-suc, take-all, length-take-le}
 use Rattle.round.specs.Lists.{tabulate, joined}
 use Rattle.round.specs.Round.{Round}
 use Rattle.round.proofs.Words.{reached}
@@ -71,3 +72,14 @@ institute-put r area at j e f = f ∙ pieces-more 12 (closingBytes r) (length-cl
 pub institutes-put : (r : Round) (area : List ℕ) (at : ℕ) {j institutes : ℕ} {now : List ℕ} → j ≤ institutes → institutes ≤ j
     → now ≡ sets area at (joined (tabulate j (closingBytes r))) → now ≡ sets area at (joined (tabulate institutes (closingBytes r)))
 institutes-put r area at l m e = reached (λ n. sets area at (joined (tabulate n (closingBytes r)))) l m (sym e)
+
+-- one type more
+pub type-more : (area types : List ℕ) (at i : ℕ) {now : List ℕ} → i < length types → now ≡ sets area at (take i types)
+    → set now (at + i) (getD types i 0) ≡ sets area at (take (i + 1) types)
+type-more area types at i {now} l e =
+    let long : length (take i types) ≡ i = length-take-le i types (omega arith) in
+    rw (add-one, take-suc types i 0, ← sets-append, long, e)
+
+-- all types
+pub types-put : (area types : List ℕ) (at : ℕ) {i : ℕ} {now : List ℕ} → length types ≤ i → now ≡ sets area at (take i types) → now ≡ sets area at types
+types-put area types at {i} l e = e ∙ rw (take-all i types)

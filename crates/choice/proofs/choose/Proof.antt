@@ -7,10 +7,10 @@ use Rattle.choice.proofs.choose.Statement.{statement}
 use Rattle.choice.proofs.choose.Tie as tie
 
 abbrev Inv-loop : tie.InvT-loop
-Inv-loop rules types count marks offers steps₀ uses₀ handed₀ k₀ steps uses handed k = (k ≤ count) × Stepping marks offers rules types count k steps uses handed
+Inv-loop rules types count marks offers first steps₀ used₀ handed₀ k₀ steps used handed k = (k ≤ count) × Stepping marks offers rules types count first k steps used handed
 
 abbrev μ-loop : tie.MeasureT-loop
-μ-loop rules types count marks offers steps₀ uses₀ handed₀ k₀ steps uses handed k = count - k
+μ-loop rules types count marks offers first steps₀ used₀ handed₀ k₀ steps used handed k = count - k
 
 clear-requires : tie.Need-clear-requires Inv-loop μ-loop
 clear-requires c κs = search needs

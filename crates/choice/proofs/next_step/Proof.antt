@@ -48,8 +48,8 @@ slice-read-positions c = search needs
 add-positions-3 : tie.Need-add-positions-3
 add-positions-3 c = search positions-fit
 
-add-first : tie.Need-add-first
-add-first c = search needs
+add-start : tie.Need-add-start
+add-start c = search needs
 
 add-end : tie.Need-add-end
 add-end c = search needs
@@ -104,7 +104,7 @@ returns c =
     let start : tie.Start = search needs in
     let stepped : tie.After-step = search needs in
     let a = start .args in
-    step-advances (start .pre .0) (start .pre .1 .0) (a .marks .now) (a .offers .now) (a .steps .now) (a .uses .now) (stepped .step .ensures)
+    step-advances (start .pre .0) (start .pre .1 .0) (a .first) (a .marks .now) (a .offers .now) (a .steps .now) (a .used .now) (stepped .step .ensures)
 
 pub next-step-spec : {M : Type 1} → statement M
 next-step-spec =
@@ -124,7 +124,7 @@ next-step-spec =
     mul-positions-2
     slice-read-positions
     add-positions-3
-    add-first
+    add-start
     add-end
     add-number
     cast-number

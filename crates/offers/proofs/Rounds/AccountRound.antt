@@ -1,27 +1,32 @@
 -- When the process of a sound round has ended: an institute's account from any offers between its seats and all offers made to it is the one
--- from all of them, and says which seats were given by merit.
+-- from all of them, and says which seats were given by merit and which type was used for each.
 use mathlib.Core.Path.{_≡_, refl, sym, _∙_, ap}
-use mathlib.Core.Bool.{true, not, _&&_}
-use Prim.Native.Nat.{ℕ, suc, _<_}
+use mathlib.Core.Bool.{true, cond, not, _&&_}
+use mathlib.Core.List.{[]}
+use Prim.Native.Nat.{ℕ, suc, _-_, _<_}
 use native.Mathlib.Omega.{arith}
-use lib.Dec.{eqb}
-use lib.ListN.{getD}
+use native.Mathlib.Decide.{decLt}
+use lib.Dec.{eqb, ltb}
+use lib.ListN.{length, getD}
+use borrow.Author.Tests.{ne-eqb}
 use Rattle.round.specs.declared.entry.Category.{Category}
 use Rattle.round.specs.Round.{Round}
 use Rattle.round.specs.Places.{instituteAt}
+use Rattle.round.specs.Lists.{tabulate}
 use Rattle.round.specs.Sound.{Sound}
+use Rattle.round.proofs.Words.{length-tabulate, tabulate-at}
 use Rattle.choice.specs.Choice.{choose}
-use Rattle.choice.specs.Account.{tookByMerit, accountOf, usedIn}
-use Rattle.choice.proofs.Accounts.{merit-of}
-use Rattle.offers.specs.Offers.{OfferSet, marksOn, atPlaces, placeOn, stepsOn, accountOn, stepFor}
-use Rattle.offers.specs.Process.{candidateCount, instituteCount, madeTo, tried, seats, accountAtEnd}
+use Rattle.choice.specs.Account.{tookByMerit, typeUsed, accountOf, usedIn}
+use Rattle.choice.proofs.Accounts.{merit-of, used-type, type-of}
+use Rattle.offers.specs.Offers.{OfferSet, marksOn, atPlaces, placeOn, stepsOn, accountOn, stepFor, typeFor}
+use Rattle.offers.specs.Process.{Seat, noSeat, isNone, candidateCount, instituteCount, madeTo, tried, seats, accountAtEnd, typeBy, typesUsed}
 use Rattle.offers.specs.Stable.{given, stepOf}
-use Rattle.offers.proofs.Rounds.Agreed.{merit-marks, same-account-on}
+use Rattle.offers.proofs.Rounds.Agreed.{merit-marks, same-account-on, step-absent}
 use Rattle.offers.proofs.Rounds.Running.{held-at, Running, one-at, held-made}
 use Rattle.offers.proofs.Rounds.Places.{meritLength}
 use Rattle.offers.proofs.Rounds.Seats.{stepIn}
 use Rattle.offers.proofs.Rounds.Process.{tried-running}
-use Rattle.offers.proofs.Rounds.Given.{given-held, step-given}
+use Rattle.offers.proofs.Rounds.Given.{seated-at, given-held, step-given}
 
 module _ {types : ℕ} {r : Round} (sound : Sound types r) (j : ℕ) (hj : j < instituteCount r) where
   run : Running r (tried r)
@@ -42,6 +47,11 @@ module _ {types : ℕ} {r : Round} (sound : Sound types r) (j : ℕ) (hj : j < i
   account-seats X same =
       account-between X (λ i hi c t. held-made sound run i j c (sym (given-held sound run i j hi hj c) ∙ (sym (same i hi c) ∙ t))) (λ i hi c t. same i hi c ∙ t)
 
+  step-here : (i : ℕ)
+      → getD (choose (marksOn r j) (atPlaces r j (madeTo r (tried r) j)) (instituteAt r j .steps)) (placeOn r j i) 0 ≡ stepIn r (tried r) j i
+  unfolding stepFor stepsOn
+  step-here i = refl
+
   -- a step seats a candidate by merit just where the seat is of that step and not for use
   pub merit-seated : (i k : ℕ) → i < candidateCount r → placeOn r j i < meritLength r j
       → tookByMerit (accountOf (accountAtEnd r j) (suc k)) (placeOn r j i)
@@ -49,7 +59,45 @@ module _ {types : ℕ} {r : Round} (sound : Sound types r) (j : ℕ) (hj : j < i
   unfolding accountAtEnd accountOn seats
   merit-seated i k hi l =
       merit-of (marksOn r j) (atPlaces r j (madeTo r (tried r) j)) (instituteAt r j .steps) (placeOn r j i) k (omega (arith, merit-marks r j))
-      ∙ ap (λ s. eqb s (suc k) && not (usedIn (accountAtEnd r j) (placeOn r j i))) (step-here ∙ sym (step-given sound run i j hi hj))
-    where
-      step-here : getD (choose (marksOn r j) (atPlaces r j (madeTo r (tried r) j)) (instituteAt r j .steps)) (placeOn r j i) 0 ≡ stepIn r (tried r) j i
-      step-here = unfold stepFor stepsOn in refl
+      ∙ ap (λ s. eqb s (suc k) && not (usedIn (accountAtEnd r j) (placeOn r j i))) (step-here i ∙ sym (step-given sound run i j hi hj))
+
+  -- the type used for a candidate with a step is the one that the step used
+  pub type-seated : (i k : ℕ) → stepIn r (tried r) j i ≡ suc k
+      → typeFor r j (madeTo r (tried r) j) i ≡ typeUsed (accountOf (accountAtEnd r j) (suc k)) (placeOn r j i)
+  unfolding accountAtEnd accountOn typeFor
+  type-seated i k e =
+      elim (decLt (placeOn r j i) (meritLength r j)) [
+        | yes l ↦
+            type-of (marksOn r j) (atPlaces r j (madeTo r (tried r) j)) (instituteAt r j .steps) (placeOn r j i) k (omega (arith, merit-marks r j))
+            (step-here i ∙ e)
+        | no l ↦ absurd (omega (arith, step-absent r j (madeTo r (tried r) j) i l))
+      ]
+
+  -- a candidate on the merit list is taken for use just where a type is used
+  pub used-typed : (i : ℕ) → placeOn r j i < meritLength r j
+      → usedIn (accountAtEnd r j) (placeOn r j i) ≡ ltb 0 (typeFor r j (madeTo r (tried r) j) i)
+  unfolding accountAtEnd accountOn typeFor
+  used-typed i l = used-type (marksOn r j) (atPlaces r j (madeTo r (tried r) j)) (instituteAt r j .steps) (placeOn r j i) (omega (arith, merit-marks r j))
+
+  -- the type of a candidate whom the institute seats is the one that it uses
+  pub types-seated : (i : ℕ) → i < candidateCount r → getD (seats r) i noSeat .institute ≡ suc j
+      → getD (typesUsed r) i 0 ≡ typeFor r j (madeTo r (tried r) j) i
+  unfolding typesUsed typeBy seats
+  types-seated i hi e =
+      let (d, at) = seated-at sound run i j hi hj e in
+      let here : suc j - 1 ≡ j = omega arith in
+      let step : stepIn r (tried r) j i ≡ suc (stepIn r (tried r) j i - 1) = omega arith in
+      tabulate-at (candidateCount r) _ 0 i hi
+      ∙ ap (λ (s : Seat). cond (isNone s) 0 (typeUsed (accountOf (getD (tabulate (instituteCount r) (accountAtEnd r)) (s .institute - 1) []) (s .step)) (placeOn r (s .institute - 1) i))) at
+      ∙ rw (ne-eqb (suc j) 0 (λ z. omega arith), here, tabulate-at (instituteCount r) (accountAtEnd r) [] j hj)
+      (ap (λ s. typeUsed (accountOf (accountAtEnd r j) s) (placeOn r j i)) step ∙ sym (type-seated i (stepIn r (tried r) j i - 1) step))
+
+module _ (r : Round) where
+  pub types-length : length (typesUsed r) ≡ candidateCount r
+  unfolding typesUsed
+  types-length = length-tabulate 0 (candidateCount r) (typeBy r (seats r) (tabulate (instituteCount r) (accountAtEnd r)))
+
+  -- whoever has no seat has no type
+  pub types-unseated : (i : ℕ) → i < candidateCount r → getD (seats r) i noSeat ≡ noSeat → getD (typesUsed r) i 0 ≡ 0
+  unfolding typesUsed typeBy
+  types-unseated i hi e = tabulate-at (candidateCount r) _ 0 i hi ∙ rw e

@@ -19,7 +19,7 @@ use Rattle.offers.proofs.Market.Rows.{State}
 use Rattle.offers.proofs.Market.Reached.{Final, reached-fits}
 use Rattle.offers.proofs.Market.AnyOrder.{any-order}
 use Rattle.offers.proofs.Rounds.Numbered.{rowsOf}
-use Rattle.offers.proofs.Rounds.First.{first-passes, first-before}
+use Rattle.choice.proofs.FirstNumber.{first-passes, first-before}
 use Rattle.offers.proofs.Rounds.Institutes.{choiceOf, round-market}
 use Rattle.offers.proofs.Rounds.Running.{stateOf, Running}
 use Rattle.offers.proofs.Rounds.Counted.{state-sum, state-most}

@@ -15,7 +15,7 @@ use Rattle.round.specs.Sound.{Sound}
 use Rattle.round.proofs.Words.{and-fst, and-snd}
 use Rattle.offers.specs.Process.{offered, candidateCount, seatsAfter, mayOffer, turn, turns, untried, entryTotal, tried}
 use Rattle.offers.specs.Orders.{mayGo, allMayGo, stateFrom, Order, triedIn, lowestFrom, lowestFirst}
-use Rattle.offers.proofs.Rounds.First.{first-passes}
+use Rattle.choice.proofs.FirstNumber.{first-passes}
 use Rattle.offers.proofs.Rounds.Running.{stateOf, Running}
 use Rattle.offers.proofs.Rounds.Process.{MayTurn, turns-still, turn-running, turn-sum, may-offer}
 

@@ -20,7 +20,7 @@ use Rattle.offers.proofs.Market.Laws.{Unheld}
 use Rattle.offers.proofs.Market.Reached.{start, step, Served, Closed, Final, set-turned, turned-sum, reached-fits}
 use Rattle.offers.proofs.Market.AnyOrder as AnyOrder
 use Rattle.offers.proofs.Rounds.Numbered.{numberOf, rowBy, rowsOf}
-use Rattle.offers.proofs.Rounds.First.{first-passes, first-before}
+use Rattle.choice.proofs.FirstNumber.{first-passes, first-before}
 use Rattle.offers.proofs.Rounds.Institutes.{choiceOf}
 use Rattle.offers.proofs.Rounds.Running.{stateOf, made, Running}
 use Rattle.offers.proofs.Rounds.Counted.{entries, state-sum, state-most}

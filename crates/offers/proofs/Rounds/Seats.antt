@@ -20,7 +20,7 @@ use Rattle.offers.specs.Offers.{placeOn, stepsOn, stepFor}
 use Rattle.offers.specs.Process.{noSeat, candidateCount, instituteCount, madeTo, chosen, seatBy, seatsAfter}
 use Rattle.offers.proofs.Market.Laws.{Held, Unheld, held-or-not}
 use Rattle.offers.proofs.Rounds.Numbered.{numberOf, number-same, number-back}
-use Rattle.offers.proofs.Rounds.First.{first-only, first-none}
+use Rattle.choice.proofs.FirstNumber.{first-only, first-none}
 use Rattle.offers.proofs.Rounds.Agreed.{step-taken, taken-step}
 use Rattle.offers.proofs.Rounds.Institutes.{choiceOf, choice-bounded, round-market}
 use Rattle.offers.proofs.Rounds.Running.{made, held, Running, one-entry-held, taken-held}

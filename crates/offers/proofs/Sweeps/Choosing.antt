@@ -1,7 +1,7 @@
 -- The choice among the listed offers is the institute's choice from those offers, and what is put into a table is that choice.
 use Prim.Native.Nat.{ℕ, zero, suc, _-_, _≤_, _<_}
 use mathlib.Core.Path.{_≡_, refl, sym, _∙_, ap}
-use mathlib.Core.Bool.{Bool, true, false, cond, not}
+use mathlib.Core.Bool.{Bool, true, false, not}
 use mathlib.Core.List.{List, [], _∷_, map}
 use native.Mathlib.Omega.{arith}
 use native.Mathlib.Nat.{zero-div}
@@ -20,18 +20,20 @@ use Rattle.round.specs.Sound.{SoundInstitute}
 use Rattle.round.proofs.Words.{and-fst, and-snd, tabulate-at}
 use Rattle.choice.specs.Use.{holds}
 use Rattle.choice.specs.Choice.{choose}
-use Rattle.choice.specs.Account.{account, usedIn, usesIn}
+use Rattle.choice.specs.Account.{account, typeIn, typesIn}
 use Rattle.choice.specs.Offers.{offeredBy}
 use Rattle.choice.specs.Gathers.{Gathers}
 use Rattle.choice.proofs.Counting.{test, clash}
-use Rattle.choice.proofs.Fewer.{SameAmong, number-below, choose-gathered, used-gathered}
-use Rattle.offers.specs.Offers.{candidateOn, marksOn, atPlaces, placeOn, stepsOn, accountOn, stepFor, usedFor}
+use Rattle.choice.proofs.Fewer.{SameAmong, choose-gathered, type-gathered}
+use Rattle.offers.specs.Offers.{candidateOn, marksOn, atPlaces, placeOn, stepsOn, accountOn, stepFor, typeFor}
 use Rattle.offers.specs.Process.{candidateCount}
 use Rattle.offers.specs.Held.{AtHand}
 use Rattle.offers.specs.Sweeps.{offerTo, marksOf, offersBy, offersAt, takesPart, Gathered, ChosenListed, PutFor, Apart, Scattered}
 use Rattle.offers.proofs.Rounds.Places.{meritLength, candidate-at, candidate-below, place-of}
 use Rattle.offers.proofs.Sweeps.Known.{institute-sound, merit-few, knows-merit}
-use Rattle.offers.proofs.Sweeps.Gathers.{count-most, gathers-front, place-at}
+use Rattle.choice.proofs.Counts.{count-most}
+use Rattle.choice.proofs.Gathered.{number-below, place-numbered}
+use Rattle.offers.proofs.Sweeps.Gathers.{gathers-front}
 
 getD-map-in : (f : ℕ → ℕ) (l : List ℕ) (p : ℕ) → p < length l → getD (map f l) p 0 ≡ f (getD l p 0)
 getD-map-in f [] p l = absurd (omega arith)
@@ -53,12 +55,12 @@ module _ (r : Round) (j : ℕ) {types : ℕ} (sound : SoundInstitute (candidateC
   L = meritLength r j
 
   listed-most : k ≤ L
-  listed-most = omega (arith, g .number, count-most X L)
+  listed-most = omega (arith, g .number, count-most L X)
 
   -- a candidate of the list stands at a place with an offer, whose number is that of the candidate
   listed : (q : ℕ) → q < k → (p : ℕ) × (p < L) × (X p ≡ true) × (count p X ≡ q) × (getD who q 0 ≡ candidateOn r j p)
   listed q l =
-      let (p, m, x, at) = place-at X L q (omega (arith, g .number)) in
+      let (p, m, x, at) = place-numbered X L q (omega (arith, g .number)) in
       (p, m, x, at, ap (λ (q : ℕ). getD who q 0) (sym at) ∙ g .who-at p m x)
 
   listed-apart : Apart who (candidateCount r) k
@@ -108,8 +110,9 @@ module _ (r : Round) (j : ℕ) {types : ℕ} (sound : SoundInstitute (candidateC
       rw (lt-ltb (placeOn r j (getD who q 0)) L (omega arith), is) x
 
   -- what is chosen among the listed is what is chosen among all
-  module _ {found used : List ℕ} {rules : List StepRule} (fits : k ≤ length marks)
-      (chose : (found ≡ choose (take k marks) (offeredBy (take k offers)) rules) × (used ≡ usesIn (length (take k marks)) (account (take k marks) (offeredBy (take k offers)) rules)))
+  module _ {first : Bool} {found typed : List ℕ} {rules : List StepRule} (fits : k ≤ length marks)
+      (chose : (found ≡ choose (take k marks) (offeredBy (take k offers)) rules)
+      × (first ≡ true → typed ≡ typesIn (length (take k marks)) (account (take k marks) (offeredBy (take k offers)) rules)))
       (er : rules ≡ instituteAt r j .steps) where
     front-long : length (take k marks) ≡ count L X
     front-long = length-take-le k marks fits ∙ g .number
@@ -122,19 +125,18 @@ module _ (r : Round) (j : ℕ) {types : ℕ} (sound : SoundInstitute (candidateC
         (atPlaces r j (offersBy offer)) (offeredBy (take k offers)) offers-same rules p l x)
         ∙ ap (λ (s : List StepRule). getD (choose (marksOn r j) (atPlaces r j (offersBy offer)) s) p 0) er
 
-    used-at : (p : ℕ) → p < L → X p ≡ true → getD used (count p X) 0 ≡ cond (usedIn (accountOn r j (offersBy offer)) p) 1 0
-    unfolding accountOn usesIn
-    used-at p l x =
-        ap (λ (t : List ℕ). getD t (count p X) 0) (chose .1)
+    type-at : first ≡ true → (p : ℕ) → p < L → X p ≡ true → getD typed (count p X) 0 ≡ typeIn (accountOn r j (offersBy offer)) p
+    unfolding accountOn typesIn
+    type-at told p l x =
+        ap (λ (t : List ℕ). getD t (count p X) 0) (chose .1 told)
         ∙ tabulate-at (length (take k marks)) _ 0 (count p X) (omega (arith, front-long, number-below X p L l x))
-        ∙ ap (λ b. cond b 1 0)
-        (sym (used-gathered X L (marksOn r j) (take k marks) (length-map (instituteAt r j .merit) _) front-long marks-front
+        ∙ sym (type-gathered X L (marksOn r j) (take k marks) (length-map (instituteAt r j .merit) _) front-long marks-front
         (atPlaces r j (offersBy offer)) (offeredBy (take k offers)) offers-same rules p l x)
-        ∙ ap (λ (s : List StepRule). usedIn (account (marksOn r j) (atPlaces r j (offersBy offer)) s) p) er)
+        ∙ ap (λ (s : List StepRule). typeIn (account (marksOn r j) (atPlaces r j (offersBy offer)) s) p) er
 
-    chosen-listed : {chosen uses : List ℕ} → L ≤ 512 → ((q : ℕ) → q < k → getD chosen q 0 ≡ getD found q 0) → ((q : ℕ) → q < k → getD uses q 0 ≡ getD used q 0)
-        → ChosenListed r j offer who chosen uses k
-    unfolding stepFor usedFor
+    chosen-listed : {chosen used : List ℕ} → L ≤ 512 → ((q : ℕ) → q < k → getD chosen q 0 ≡ getD found q 0) → ((q : ℕ) → q < k → getD used q 0 ≡ getD typed q 0)
+        → ChosenListed r j offer first who chosen used k
+    unfolding stepFor typeFor
     chosen-listed few ec eu = record {
       few = omega (arith, listed-most);
       apart = listed-apart;
@@ -143,9 +145,9 @@ module _ (r : Round) (j : ℕ) {types : ℕ} (sound : SoundInstitute (candidateC
       chosen-at = λ q l.
           let (p, m, x, at, is) = listed q l in
           ec q l ∙ ap (λ q. getD found q 0) (sym at) ∙ found-at p m x ∙ ap (λ p. getD (stepsOn r j (offersBy offer)) p 0) (sym (listed-place q p m is));
-      used-at = λ q l.
+      typed-at = λ told q l.
           let (p, m, x, at, is) = listed q l in
-          eu q l ∙ ap (λ q. getD used q 0) (sym at) ∙ used-at p m x ∙ ap (λ p. cond (usedIn (accountOn r j (offersBy offer)) p) 1 0) (sym (listed-place q p m is));
+          eu q l ∙ ap (λ q. getD typed q 0) (sym at) ∙ type-at told p m x ∙ ap (λ p. typeIn (accountOn r j (offersBy offer)) p) (sym (listed-place q p m is));
     }
 
 -- the offers to an institute of the file are listed, in tables that had room for every candidate
@@ -160,17 +162,18 @@ module _ {file : List ℕ} {h : CodeHead} {candidates merits : List ℕ} (hand :
   front-fits l₀ l room same = omega (arith, listed-few)
 
   -- listed and chosen among
-  pub listed-chosen : {chosen uses found used : List ℕ} {rules : List StepRule} → k ≤ length marks
-      → (found ≡ choose (take k marks) (offeredBy (take k offers)) rules) × (used ≡ usesIn (length (take k marks)) (account (take k marks) (offeredBy (take k offers)) rules))
+  pub listed-chosen : {first : Bool} {chosen used found typed : List ℕ} {rules : List StepRule} → k ≤ length marks
+      → (found ≡ choose (take k marks) (offeredBy (take k offers)) rules)
+      × (first ≡ true → typed ≡ typesIn (length (take k marks)) (account (take k marks) (offeredBy (take k offers)) rules))
       → rules ≡ instituteAt (roundOf file) j .steps
-      → ((q : ℕ) → q < k → getD chosen q 0 ≡ getD found q 0) → ((q : ℕ) → q < k → getD uses q 0 ≡ getD used q 0)
-      → ChosenListed (roundOf file) j (offerTo (suc j) asked wanted) who chosen uses k
+      → ((q : ℕ) → q < k → getD chosen q 0 ≡ getD found q 0) → ((q : ℕ) → q < k → getD used q 0 ≡ getD typed q 0)
+      → ChosenListed (roundOf file) j (offerTo (suc j) asked wanted) first who chosen used k
   listed-chosen fits chose er =
       let known = knows-merit hand inside in
       chosen-listed (roundOf file) j (institute-sound known) (offerTo (suc j) asked wanted) g fits chose er (merit-few known)
 
 -- what was chosen is put into a table at those who take part
-module _ {r : Round} {j : ℕ} {offer : ℕ → ℕ} {who chosen uses : List ℕ} {k : ℕ} (l : ChosenListed r j offer who chosen uses k) where
+module _ {r : Round} {j : ℕ} {offer : ℕ → ℕ} {first : Bool} {who chosen used : List ℕ} {k : ℕ} (l : ChosenListed r j offer first who chosen used k) where
   pub who-apart : {n : ℕ} → candidateCount r ≡ n → k ≤ length who → Apart (take k who) n (length (take k who))
   who-apart e fits =
       rw (length-take-le k who fits)
@@ -206,6 +209,7 @@ module _ {r : Round} {j : ℕ} {offer : ℕ → ℕ} {who chosen uses : List ℕ
       → PutFor r j offer (stepFor r j (offersBy offer)) before after
   steps-put fits = put-for _ chosen fits (l .chosen-at)
 
-  pub uses-put : {before after : List ℕ} → k ≤ length who → Scattered (take k who) (λ q. getD (take k uses) q 0) (length (take k who)) before after
-      → PutFor r j offer (usedFor r j (offersBy offer)) before after
-  uses-put fits = put-for _ uses fits (l .used-at)
+  pub types-put : {before after : List ℕ} → first ≡ true → k ≤ length who
+      → Scattered (take k who) (λ q. getD (take k used) q 0) (length (take k who)) before after
+      → PutFor r j offer (typeFor r j (offersBy offer)) before after
+  types-put told fits = put-for _ used fits (l .typed-at told)

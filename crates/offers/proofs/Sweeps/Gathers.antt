@@ -1,11 +1,11 @@
 -- Listing the offers at the places of a merit list, one place after the other.
-use Prim.Native.Nat.{ℕ, zero, suc, _+_, _-_, _≤_, _<_}
+use Prim.Native.Nat.{ℕ, suc, _+_, _-_, _≤_, _<_}
 use mathlib.Core.Path.{_≡_, refl, sym, _∙_, ap}
 use mathlib.Core.Bool.{Bool, true, false, not}
 use mathlib.Core.List.{List}
 use mathlib.Core.Logic.{_≢_}
 use native.Mathlib.Omega.{arith}
-use native.Mathlib.Decide.{decLt, ℕ-discrete}
+use native.Mathlib.Decide.{ℕ-discrete}
 use native.Mathlib.Numerals.{add-one}
 use lib.ListN.{length, set, take, length-set}
 use lib.Seq.{getD-set-same, getD-set-other, getD-take}
@@ -16,17 +16,13 @@ use Rattle.round.specs.Places.{candidateAt, instituteAt, meritAt}
 use Rattle.round.specs.Reading.{roundOf}
 use Rattle.round.specs.Access.{MeritKnown}
 use Rattle.choice.specs.Gathers.{Gathers}
-use Rattle.choice.proofs.Counting.{test, clash, bit-true, bit-false, bit-max}
-use Rattle.choice.proofs.Fewer.{number-below}
+use Rattle.choice.proofs.Counting.{clash, bit-true, bit-false}
+use Rattle.choice.proofs.Gathered.{number-below}
 use Rattle.offers.specs.Offers.{candidateOn}
 use Rattle.offers.proofs.Sweeps.Known.{merit-few}
 use Rattle.offers.specs.Sweeps.{offerTo, marksOf, offersAt, Gathered}
 
 module _ (X : ℕ → Bool) where
-  pub count-most : (p : ℕ) → count p X ≤ p
-  count-most zero = omega arith
-  count-most (suc p) = omega (arith, bit-max (X p), count-most p)
-
   -- one more place of the set is gathered
   gathers-in : (f : ℕ → ℕ) (l : List ℕ) (k p v : ℕ) → k ≡ count p X → k < length l → X p ≡ true → v ≡ f p → Gathers X p f l → Gathers X (p + 1) f (set l k v)
   gathers-in f l k p v e b x ev g q m y = elim (ℕ-discrete q p) [
@@ -44,16 +40,6 @@ module _ (X : ℕ → Bool) where
   -- the gathered stand at the front of the list
   pub gathers-front : (n : ℕ) (f : ℕ → ℕ) (l : List ℕ) (k : ℕ) → k ≡ count n X → Gathers X n f l → Gathers X n f (take k l)
   gathers-front n f l k e g p m x = getD-take k l (count p X) 0 (omega (arith, number-below X p n m x)) ∙ g p m x
-
-  -- each number below the count is that of a place of the set
-  pub place-at : (n q : ℕ) → q < count n X → (p : ℕ) × (p < n) × (X p ≡ true) × (count p X ≡ q)
-  place-at zero q l = absurd (omega arith)
-  place-at (suc n) q l = elim (decLt q (count n X)) [
-    | yes b ↦ let (p, m, x, at) = place-at n q b in (p, omega arith, x, at)
-    | no b ↦
-        test (X n) (λ x. (n, omega arith, x, omega (arith, bit-true (X n) x)))
-        (λ x. absurd (omega (arith, bit-false (X n) x)))
-  ]
 
 module _ (r : Round) (j : ℕ) (offer : ℕ → ℕ) where
   -- where the listing stands at place p

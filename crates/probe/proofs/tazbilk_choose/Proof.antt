@@ -1,6 +1,6 @@
--- `probe::tazbilk_choose` meets its contract: where the lengths fit the steps and notes are those of the choice, and else they stay.
+-- `probe::tazbilk_choose` meets its contract: where the lengths fit the steps and types are those of the choice, and else they stay.
 -- Assumes nothing.
-use mathlib.Core.Path.{_≡_, sym, _∙_}
+use mathlib.Core.Path.{_≡_, refl, sym, _∙_}
 use mathlib.Core.Bool.{true}
 use lib.ListN.{length}
 use native.Mathlib.Omega.{arith}
@@ -20,7 +20,7 @@ abbrev start : tie.After-rule-table → tie.Start
 start m = begun (tested m .before .before .before .before .before)
 
 fit : (m : tie.After-rule-table) → let a = start m .args in
-    fitting (a .types) (length (a .body .now)) (length (a .marks .now)) (length (a .offers .now)) (length (a .steps .now)) (length (a .uses .now)) ≡ true
+    fitting (a .types) (length (a .body .now)) (length (a .marks .now)) (length (a .offers .now)) (length (a .steps .now)) (length (a .used .now)) ≡ true
 fit m = sym (tested m .fits2 .ensures) ∙ m .before .if1 .taken
 
 fits-requires : tie.Need-fits-requires
@@ -36,7 +36,7 @@ rules-of-requires : tie.Need-rules-of-requires
 rules-of-requires c κs =
     let m = c .before in
     let a = start m .args in
-    (fitted (a .body .now) (a .types) (a .policy) (a .marks .now) (a .offers .now) (a .steps .now) (a .uses .now) (fit m) .0, omega (arith, m .rule-table .ensures))
+    (fitted (a .body .now) (a .types) (a .policy) (a .marks .now) (a .offers .now) (a .steps .now) (a .used .now) (fit m) .0, omega (arith, m .rule-table .ensures))
 
 slice-aggregate-choose : tie.Need-slice-aggregate-choose
 slice-aggregate-choose c = search needs
@@ -46,7 +46,7 @@ choose-requires c κs =
     let read : tie.After-rules-of = search needs in
     let m = read .before .before in
     let a = start m .args in
-    (read .rules-of .ensures .table-of, fitted (a .body .now) (a .types) (a .policy) (a .marks .now) (a .offers .now) (a .steps .now) (a .uses .now) (fit m) .1)
+    (read .rules-of .ensures .table-of, fitted (a .body .now) (a .types) (a .policy) (a .marks .now) (a .offers .now) (a .steps .now) (a .used .now) (fit m) .1)
 
 same-length : tie.Need-same-length
 same-length c = search needs
@@ -60,7 +60,8 @@ returns c =
     let m = read .before .before in
     let a = start m .args in
     let chose : tie.After-choose = search needs in
-    chosen (a .body .now) (a .types) (a .policy) (a .marks .now) (a .offers .now) (a .steps .now) (a .uses .now) _ _ (fit m) (read .rules-of .ensures) (chose .choose .ensures)
+    chosen (a .body .now) (a .types) (a .policy) (a .marks .now) (a .offers .now) (a .steps .now) (a .used .now) _ _ (fit m) (read .rules-of .ensures)
+    (chose .choose .ensures .0, chose .choose .ensures .1 refl)
 
 returns-2 : tie.Need-returns-2
 returns-2 c = stay _ _ _ _ _ _ _ (sym (c .before .fits2 .ensures) ∙ c .if1 .left)

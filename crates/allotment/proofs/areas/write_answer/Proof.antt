@@ -1,18 +1,28 @@
--- The seats and then the closing places are put into the answer area.
+-- The seats, the closing places and the types are put into the answer area one after the other.
 -- Assumes nothing.
+use native.Mathlib.Omega.{arith}
 use borrow.Author.Needs.{needs}
-use Rattle.allotment.proofs.Files.Answering.{as-many, institutes-known, seats-room, closings-room, answer-put}
+use Rattle.allotment.proofs.Files.Answering.{as-many, institutes-known, seats-room, closings-room, types-room, holders-few, institutes-few, answer-put}
 use Rattle.allotment.proofs.areas.write_answer.Statement.{statement}
 use Rattle.allotment.proofs.areas.write_answer.Tie as tie
+
+mul-closings : tie.Need-mul-closings
+mul-closings c = search needs
 
 write-seats-requires : tie.Need-write-seats-requires
 write-seats-requires c κs = (search as-many, search seats-room)
 
-mul-write-closings : tie.Need-mul-write-closings
-mul-write-closings c = search needs
-
 write-closings-requires : tie.Need-write-closings-requires
 write-closings-requires c κs = (search needs, (search institutes-known, search (needs, closings-room)))
+
+mul-write-types : tie.Need-mul-write-types
+mul-write-types c = omega (arith, institutes-few)
+
+add-write-types : tie.Need-add-write-types
+add-write-types c = let start : tie.Start = search needs in omega (arith, holders-few (start .pre .0), institutes-few (start .pre .0))
+
+write-types-requires : tie.Need-write-types-requires
+write-types-requires c κs = search (needs, types-room)
 
 same-length : tie.Need-same-length
 same-length c = search needs
@@ -23,4 +33,12 @@ returns c = search (needs, answer-put)
 pub write-answer-spec : {M : Type 1} → statement M
 write-answer-spec =
     tie.close
-    (tie.spec write-seats-requires mul-write-closings write-closings-requires same-length returns)
+    (tie.spec
+    mul-closings
+    write-seats-requires
+    write-closings-requires
+    mul-write-types
+    add-write-types
+    write-types-requires
+    same-length
+    returns)

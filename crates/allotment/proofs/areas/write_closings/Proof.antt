@@ -14,10 +14,10 @@ use Rattle.allotment.proofs.areas.write_closings.Statement.{statement}
 use Rattle.allotment.proofs.areas.write_closings.Tie as tie
 
 abbrev Inv-loop : tie.InvT-loop
-Inv-loop file institutes merits holders steps uses area₀ at j₀ area j = (j ≤ institutes) × (length area ≡ length area₀) × (area ≡ sets area₀ at (joined (tabulate j (closingBytes (roundOf file)))))
+Inv-loop file institutes merits holders steps types area₀ at j₀ area j = (j ≤ institutes) × (length area ≡ length area₀) × (area ≡ sets area₀ at (joined (tabulate j (closingBytes (roundOf file)))))
 
 abbrev μ-loop : tie.MeasureT-loop
-μ-loop file institutes merits holders steps uses area₀ at j₀ area j = institutes - j
+μ-loop file institutes merits holders steps types area₀ at j₀ area j = institutes - j
 
 loop-holds : tie.Need-loop-holds Inv-loop μ-loop
 loop-holds c = (omega arith, refl, refl)

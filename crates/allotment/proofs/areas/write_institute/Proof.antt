@@ -14,10 +14,10 @@ use Rattle.allotment.proofs.areas.write_institute.Statement.{statement}
 use Rattle.allotment.proofs.areas.write_institute.Tie as tie
 
 abbrev Inv-loop : tie.InvT-loop
-Inv-loop file merits holders steps uses j area₀ at places k₀ area k = (k ≤ 6) × (places ≡ closingPlaces (roundOf file) j) × (length area ≡ length area₀) × (area ≡ sets area₀ at (joined (tabulate k (closingPieces (roundOf file) j))))
+Inv-loop file merits holders steps types j area₀ at places k₀ area k = (k ≤ 6) × (places ≡ closingPlaces (roundOf file) j) × (length area ≡ length area₀) × (area ≡ sets area₀ at (joined (tabulate k (closingPieces (roundOf file) j))))
 
 abbrev μ-loop : tie.MeasureT-loop
-μ-loop file merits holders steps uses j area₀ at places k₀ area k = 6 - k
+μ-loop file merits holders steps types j area₀ at places k₀ area k = 6 - k
 
 loop-holds : tie.Need-loop-holds Inv-loop μ-loop
 loop-holds c = (omega arith, search needs, refl, refl)

@@ -46,8 +46,8 @@ array-borrow-prefix-steps c = search (needs, places)
 slice-aggregate-seat-all-2 : tie.Need-slice-aggregate-seat-all-2
 slice-aggregate-seat-all-2 c = search (needs, places-many)
 
-array-borrow-prefix-uses : tie.Need-array-borrow-prefix-uses
-array-borrow-prefix-uses c = search (needs, places)
+array-borrow-prefix-types : tie.Need-array-borrow-prefix-types
+array-borrow-prefix-types c = search (needs, places)
 
 slice-aggregate-seat-all-3 : tie.Need-slice-aggregate-seat-all-3
 slice-aggregate-seat-all-3 c = search (needs, places-many)
@@ -87,7 +87,7 @@ allot-round-spec =
     slice-aggregate-seat-all
     array-borrow-prefix-steps
     slice-aggregate-seat-all-2
-    array-borrow-prefix-uses
+    array-borrow-prefix-types
     slice-aggregate-seat-all-3
     seat-all-requires
     mul-clear

@@ -7,15 +7,15 @@ use native.Mathlib.Omega.{arith}
 use lib.ListN.{length}
 use Rattle.round.specs.Reading.{roundOf}
 use Rattle.round.specs.Access.{instituteOf}
-use Rattle.allotment.proofs.Files.Closing.{ClosedTo, none-closed, all-closed, merit-known, on-list, place-fits, merit-least, holder-there, step-there, use-there, step-few, place-closed}
+use Rattle.allotment.proofs.Files.Closing.{ClosedTo, none-closed, all-closed, merit-known, on-list, place-fits, merit-least, holder-there, step-there, type-there, step-few, place-closed}
 use Rattle.allotment.proofs.closing.closing_places.Statement.{statement}
 use Rattle.allotment.proofs.closing.closing_places.Tie as tie
 
 abbrev Inv-loop : tie.InvT-loop
-Inv-loop file merits holders steps uses j count places₀ p₀ places p = (p ≤ count) × (count ≡ length (instituteOf file j .merit)) × ClosedTo (roundOf file) j p places
+Inv-loop file merits holders steps types j count places₀ p₀ places p = (p ≤ count) × (count ≡ length (instituteOf file j .merit)) × ClosedTo (roundOf file) j p places
 
 abbrev μ-loop : tie.MeasureT-loop
-μ-loop file merits holders steps uses j count places₀ p₀ places p = count - p
+μ-loop file merits holders steps types j count places₀ p₀ places p = count - p
 
 merit-length-requires : tie.Need-merit-length-requires Inv-loop μ-loop
 merit-length-requires c κs = search needs
@@ -36,7 +36,7 @@ add-merit-step : tie.Need-add-merit-step Inv-loop μ-loop
 add-merit-step c = search needs
 
 merit-step-requires : tie.Need-merit-step-requires Inv-loop μ-loop
-merit-step-requires c κs = (search holder-there, search step-there, search use-there)
+merit-step-requires c κs = (search holder-there, search step-there, search type-there)
 
 slice-aggregate-keep-place : tie.Need-slice-aggregate-keep-place Inv-loop μ-loop
 slice-aggregate-keep-place c = search needs

@@ -1,4 +1,4 @@
--- The step of a candidate whom an institute holds and did not take for use, by the arrays.
+-- The step of a candidate whom an institute holds under no type, by the arrays.
 -- Assumes nothing.
 use borrow.Author.Needs.{needs}
 use Prim.Native.Nat.{ℕ}
@@ -11,16 +11,16 @@ use Rattle.allotment.specs.Writing.{meritStep}
 use Rattle.allotment.proofs.closing.merit_step.Statement.{statement}
 use Rattle.allotment.proofs.closing.merit_step.Tie as tie
 
-module _ (holders steps uses : List ℕ) (i institute : ℕ) {x : ℕ} (holder : x ≡ getD holders i 0) where
-  elsewhere : x ≢ institute → 0 ≡ meritStep holders steps uses institute i
+module _ (holders steps types : List ℕ) (i institute : ℕ) {x : ℕ} (holder : x ≡ getD holders i 0) where
+  elsewhere : x ≢ institute → 0 ≡ meritStep holders steps types institute i
   elsewhere d = rw (ne-eqb (getD holders i 0) institute (λ e. d (holder ∙ e)))
 
   module _ (here : x ≡ institute) where
-    for-use : getD uses i 0 ≢ 0 → 0 ≡ meritStep holders steps uses institute i
-    for-use d = rw (eq-eqb (getD holders i 0) institute (sym holder ∙ here), ne-eqb (getD uses i 0) 0 d)
+    with-type : getD types i 0 ≢ 0 → 0 ≡ meritStep holders steps types institute i
+    with-type d = rw (eq-eqb (getD holders i 0) institute (sym holder ∙ here), ne-eqb (getD types i 0) 0 d)
 
-    by-merit : getD uses i 0 ≡ 0 → {y : ℕ} → y ≡ getD steps i 0 → y ≡ meritStep holders steps uses institute i
-    by-merit z e = rw (eq-eqb (getD holders i 0) institute (sym holder ∙ here), eq-eqb (getD uses i 0) 0 z) e
+    by-merit : getD types i 0 ≡ 0 → {y : ℕ} → y ≡ getD steps i 0 → y ≡ meritStep holders steps types institute i
+    by-merit z e = rw (eq-eqb (getD holders i 0) institute (sym holder ∙ here), eq-eqb (getD types i 0) 0 z) e
 
 shared-slice-read-wide : tie.Need-shared-slice-read-wide
 shared-slice-read-wide c = search needs
@@ -35,7 +35,7 @@ shared-slice-read-if2 : tie.Need-shared-slice-read-if2
 shared-slice-read-if2 c = search needs
 
 returns-2 : tie.Need-returns-2
-returns-2 c = search for-use
+returns-2 c = search with-type
 
 shared-slice-read-wide-2 : tie.Need-shared-slice-read-wide-2
 shared-slice-read-wide-2 c = search needs

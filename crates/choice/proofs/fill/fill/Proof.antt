@@ -10,10 +10,10 @@ use Rattle.choice.proofs.fill.fill.Statement.{statement}
 use Rattle.choice.proofs.fill.fill.Tie as tie
 
 abbrev Inv-loop : tie.InvT-loop
-Inv-loop free number offers code placed steps₀ uses₀ filled₀ p₀ p-end steps uses filled p = (p ≤ length steps₀) × (p-end ≡ length steps₀) × Filled number code free offers placed steps₀ uses₀ steps uses filled p
+Inv-loop free number offers code placed steps₀ used₀ filled₀ p₀ p-end steps used filled p = (p ≤ length steps₀) × (p-end ≡ length steps₀) × Filled number code free offers placed steps₀ used₀ steps used filled p
 
 abbrev μ-loop : tie.MeasureT-loop
-μ-loop free number offers code placed steps₀ uses₀ filled₀ p₀ p-end steps uses filled p = length steps₀ - p
+μ-loop free number offers code placed steps₀ used₀ filled₀ p₀ p-end steps used filled p = length steps₀ - p
 
 loop-holds : tie.Need-loop-holds Inv-loop μ-loop
 loop-holds c = (omega arith, refl, none-filled _ _ _ _ _ _ _)
@@ -24,8 +24,11 @@ shared-slice-read-if1 c = search needs
 slice-write-steps : tie.Need-slice-write-steps Inv-loop μ-loop
 slice-write-steps c = search needs
 
-slice-write-uses : tie.Need-slice-write-uses Inv-loop μ-loop
-slice-write-uses c = omega arith
+shared-slice-read-used : tie.Need-shared-slice-read-used Inv-loop μ-loop
+shared-slice-read-used c = search needs
+
+slice-write-used : tie.Need-slice-write-used Inv-loop μ-loop
+slice-write-used c = omega arith
 
 considers-requires : tie.Need-considers-requires Inv-loop μ-loop
 considers-requires c κs = (search needs, omega arith, omega arith)
@@ -64,7 +67,8 @@ fill-spec =
     loop-holds
     shared-slice-read-if1
     slice-write-steps
-    slice-write-uses
+    shared-slice-read-used
+    slice-write-used
     considers-requires
     slice-write-steps-2
     add-filled

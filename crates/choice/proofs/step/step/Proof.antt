@@ -15,11 +15,11 @@ zeros-requires c κs = search needs
 array-borrow-prefix-types : tie.Need-array-borrow-prefix-types
 array-borrow-prefix-types c = search needs
 
-slice-aggregate-take-for-use : tie.Need-slice-aggregate-take-for-use
-slice-aggregate-take-for-use c = search (needs, front-each)
+slice-aggregate-take-typed : tie.Need-slice-aggregate-take-typed
+slice-aggregate-take-typed c = search (needs, front-each)
 
-take-for-use-requires : tie.Need-take-for-use-requires
-take-for-use-requires c κs = search (needs, front-zero)
+take-typed-requires : tie.Need-take-typed-requires
+take-typed-requires c κs = search (needs, front-zero)
 
 left-of-requires : tie.Need-left-of-requires
 left-of-requires c κs = search needs
@@ -46,11 +46,11 @@ returns : tie.Need-returns
 returns c =
     let filled : tie.After-fill = search needs in
     let free = freed filled in
-    let taken : tie.After-take-for-use = free .before .before in
+    let taken : tie.After-take-typed = free .before .before in
     let made : tie.After-zeros = search needs in
     let start : tie.Start = search needs in
     let places = start .pre .1 in
-    step-done _ _ places (taken .take-for-use .ensures) (types-back (places .few) (made .zeros .ensures) _ (taken .take-for-use .kept .1 .1 .1 .1 .1 .0))
+    step-done _ _ places (taken .take-typed .ensures) (types-back (places .few) (made .zeros .ensures) _ (taken .take-typed .kept .1 .1 .1 .1 .1 .1 .0))
     (free .left-of .ensures) (filled .fill .ensures) (c .left-of2 .ensures)
 
 pub step-spec : {M : Type 1} → statement M
@@ -59,8 +59,8 @@ step-spec =
     (tie.spec
     zeros-requires
     array-borrow-prefix-types
-    slice-aggregate-take-for-use
-    take-for-use-requires
+    slice-aggregate-take-typed
+    take-typed-requires
     left-of-requires
     array-share-prefix-types
     slice-aggregate-fill

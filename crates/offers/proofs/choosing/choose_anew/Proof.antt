@@ -17,10 +17,10 @@ module _ (c : tie.After-choose-listed) where
   k = c .choose-listed .result
 
   abbrev who : List ℕ
-  who = c .choose-listed .last .1 .1 .1 .1 .1 .1 .1 .0
+  who = c .choose-listed .last .1 .1 .1 .1 .1 .1 .1 .1 .0
 
   abbrev chosen : List ℕ
-  chosen = c .choose-listed .last .1 .1 .1 .1 .1 .1 .1 .1 .0
+  chosen = c .choose-listed .last .1 .1 .1 .1 .1 .1 .1 .1 .1 .0
 
   who-fits : k ≤ length who
   who-fits = search needs

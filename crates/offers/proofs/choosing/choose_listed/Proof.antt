@@ -48,8 +48,8 @@ module _ (c : tie.After-gather) where
   abbrev chosen : List ℕ
   chosen = now (start c .args .chosen)
 
-  abbrev uses : List ℕ
-  uses = now (start c .args .uses)
+  abbrev used : List ℕ
+  used = now (start c .args .used)
 
   few : k ≤ 512
   few = search listed-few
@@ -57,8 +57,8 @@ module _ (c : tie.After-gather) where
   chosen-fits : k ≤ length chosen
   chosen-fits = omega (arith, few, start c .pre)
 
-  uses-fits : k ≤ length uses
-  uses-fits = omega (arith, few, start c .pre)
+  used-fits : k ≤ length used
+  used-fits = omega (arith, few, start c .pre)
 
   marks-fits : k ≤ length marks
   marks-fits = search (front-fits, zeros-room)
@@ -72,16 +72,16 @@ module _ (c : tie.After-choose) where
   g = listed (ready (c .before))
 
   abbrev found : List ℕ
-  found = c .choose .last .1 .1 .1 .1 .1 .0
+  found = c .choose .last .1 .1 .1 .1 .1 .1 .0
 
-  abbrev used : List ℕ
-  used = c .choose .last .1 .1 .1 .1 .1 .1 .0
+  abbrev typed : List ℕ
+  typed = c .choose .last .1 .1 .1 .1 .1 .1 .1 .0
 
   found-long : length found ≡ k g
-  found-long = c .choose .kept .1 .1 .1 .1 .1 .0 ∙ length-take-le _ _ (chosen-fits g)
+  found-long = c .choose .kept .1 .1 .1 .1 .1 .1 .0 ∙ length-take-le _ _ (chosen-fits g)
 
-  used-long : length used ≡ k g
-  used-long = c .choose .kept .1 .1 .1 .1 .1 .1 .0 ∙ length-take-le _ _ (uses-fits g)
+  typed-long : length typed ≡ k g
+  typed-long = c .choose .kept .1 .1 .1 .1 .1 .1 .1 .0 ∙ length-take-le _ _ (used-fits g)
 
 zeros-requires : tie.Need-zeros-requires
 zeros-requires c κs = search needs
@@ -132,10 +132,10 @@ slice-aggregate-choose-4 : tie.Need-slice-aggregate-choose-4
 slice-aggregate-choose-4 c = sym (length-take-le _ _ (chosen-fits (listed (c .before .before .before))))
 
 slice-relend-prefix-choose-2 : tie.Need-slice-relend-prefix-choose-2
-slice-relend-prefix-choose-2 c = uses-fits (listed (c .before .before .before))
+slice-relend-prefix-choose-2 c = used-fits (listed (c .before .before .before))
 
 slice-aggregate-choose-5 : tie.Need-slice-aggregate-choose-5
-slice-aggregate-choose-5 c = sym (length-take-le _ _ (uses-fits (listed (ready c))))
+slice-aggregate-choose-5 c = sym (length-take-le _ _ (used-fits (listed (ready c))))
 
 choose-requires : tie.Need-choose-requires
 choose-requires c κs =
@@ -146,7 +146,7 @@ choose-requires c κs =
         few = omega (arith, each, few g);
         offers-each = length-take-le _ _ (offers-fits g) ∙ sym each;
         steps-each = length-take-le _ _ (chosen-fits g) ∙ sym each;
-        uses-each = length-take-le _ _ (uses-fits g) ∙ sym each;
+        used-each = length-take-le _ _ (used-fits g) ∙ sym each;
       },
     )
 
@@ -167,7 +167,7 @@ returns c =
     listed-chosen (pre .0) (pre .1 .0) _ _ (g chose .gather .ensures) (marks-fits (g chose)) (chose .choose .ensures)
     (prepared .before .before .rules-of .ensures .rules-of ∙ ruled prepared .institute-body .ensures .steps-of)
     (λ q l. List·getD-append (found chose) _ 0 q (omega (arith, found-long chose)))
-    (λ q l. List·getD-append (used chose) _ 0 q (omega (arith, used-long chose)))
+    (λ q l. List·getD-append (typed chose) _ 0 q (omega (arith, typed-long chose)))
 
 pub choose-listed-spec : {M : Type 1} → statement M
 choose-listed-spec =

@@ -18,17 +18,13 @@ head-in-requires : tie.Need-head-in-requires
 head-in-requires c κs = search needs
 
 put-allotment-requires : tie.Need-put-allotment-requires
-put-allotment-requires c κs =
-    let begun : tie.After-shared-slice-known = search needs in
-    (search (needs, answer-there), search (needs, page-fits, begun .shared-slice-known .given))
+put-allotment-requires c κs = (search (needs, answer-there), search (needs, page-fits))
 
 same-length : tie.Need-same-length
 same-length c = search needs
 
 returns : tie.Need-returns
-returns c =
-    let begun : tie.After-shared-slice-known = search needs in
-    search (needs, answered-front, begun .shared-slice-known .given)
+returns c = search (needs, answered-front)
 
 pub put-answered-spec : {M : Type 1} → statement M
 put-answered-spec =

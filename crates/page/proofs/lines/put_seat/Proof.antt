@@ -1,4 +1,4 @@
--- The candidate, then the institute, then the step, then the line's end.
+-- The candidate, then the institute, then the step, then the type, then the line's end.
 -- Assumes nothing.
 use borrow.Author.Needs.{needs}
 use native.Mathlib.Omega.{arith}
@@ -22,6 +22,11 @@ put-next-requires-2 c κs =
     let start : tie.Start = search needs in
     record { room = omega (arith, simp length-append at (start .pre .room)) }
 
+put-next-requires-3 : tie.Need-put-next-requires-3
+put-next-requires-3 c κs =
+    let start : tie.Start = search needs in
+    record { room = omega (arith, simp length-append at (start .pre .room)) }
+
 put-line-end-requires : tie.Need-put-line-end-requires
 put-line-end-requires c κs =
     let start : tie.Start = search needs in
@@ -31,7 +36,14 @@ same-length : tie.Need-same-length
 same-length c = search needs
 
 returns : tie.Need-returns
-returns c = search (needs, seat-put)
+returns c =
+    let numbered : tie.After-put-number = search needs in
+    let placed : tie.After-put-next = search needs in
+    let stepped : tie.After-put-next2 = search needs in
+    let typed : tie.After-put-next3 = search needs in
+    let ended : tie.After-put-line-end = search needs in
+    seat-put _ _ _ (numbered .put-number .ensures) (placed .put-next .ensures) (stepped .put-next2 .ensures) (typed .put-next3 .ensures)
+    (ended .put-line-end .ensures)
 
 pub put-seat-spec : {M : Type 1} → statement M
 put-seat-spec =
@@ -40,6 +52,7 @@ put-seat-spec =
     put-number-requires
     put-next-requires
     put-next-requires-2
+    put-next-requires-3
     put-line-end-requires
     same-length
     returns)

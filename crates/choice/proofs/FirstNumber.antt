@@ -4,8 +4,7 @@ use mathlib.Core.Bool.{Bool, true, false, cond}
 use Prim.Native.Nat.{ℕ, zero, suc, _+_, _≤_, _<_}
 use native.Mathlib.Omega.{arith}
 use Rattle.round.specs.Lists.{firstFrom, first}
-use Rattle.choice.proofs.Counting.{clash}
-use Rattle.offers.proofs.Market.Update.{split-at}
+use Rattle.choice.proofs.Counting.{clash, sameOr}
 
 -- what is known of x, the first of n numbers from i on
 record From (i n : ℕ) (f : ℕ → Bool) (x : ℕ) : Type 0 where
@@ -24,7 +23,7 @@ from-first i (suc n) f = go (f i) refl (from-first (suc i) n f)
       low = omega (arith, h .low);
       high = omega (arith, h .high);
       passes = λ l. h .passes (omega arith);
-      before = λ p l m. split-at (λ p. i ≤ p → p < firstFrom (suc i) n f → f p ≡ false) i (λ l m. e) (λ p d l m. h .before p (omega arith) m) p l m;
+      before = λ p l m. sameOr p i (λ same. rw same e) (λ other. h .before p (omega arith) m);
     }
 
 module _ (n : ℕ) (f : ℕ → Bool) where

@@ -1,9 +1,10 @@
-// Who was taken for use, when the process has ended: each institute chooses once more, from its seats. What it takes for use from these is
-// what it takes for use from all offers ever made to it (`Rounds/AccountRound`).
+// The types used, when the process has ended: each institute chooses once more, from its seats. The types that it uses are those that it
+// uses when it chooses from all offers ever made to it (`Rounds/AccountRound`).
 use crate::choosing::choose_listed;
 use crate::offering::only;
 use crate::scatter::scatter;
 use crate::table::nobody;
+use round::clearing::clear;
 use round::clearing::zeros;
 use round::entry::step_category;
 use round::head::Head;
@@ -11,9 +12,9 @@ ghost use mathlib.Core.Path.{_≡_};
 ghost use Prim.Native.Nat.{_<_};
 ghost use lib.ListN.{length};
 ghost use Rattle.round.specs.Reading.{roundOf};
-ghost use Rattle.offers.specs.Process.{instituteCount, seats};
+ghost use Rattle.offers.specs.Process.{seats, typesUsed};
 ghost use Rattle.offers.specs.Held.{AtHand, HeldIn};
-ghost use Rattle.offers.specs.Uses.{SeatsWanted, UsesAnew, UsesNoted};
+ghost use Rattle.offers.specs.Types.{SeatsWanted, TypesAnew};
 
 // The set of the category of each seat's step.
 fn seats_wanted(steps: &[u8], wanted: &mut [u8])
@@ -28,8 +29,8 @@ fn seats_wanted(steps: &[u8], wanted: &mut [u8])
     }
 }
 
-// Institute j, from 0, chooses from its seats, and whom it takes for use is noted.
-fn use_anew(
+// Institute j, from 0, chooses from its seats, and the types that it uses are noted.
+fn type_anew(
     file: &[u8],
     h: Head,
     candidates: &[usize],
@@ -37,13 +38,13 @@ fn use_anew(
     j: usize,
     holders: &[u8],
     wanted: &[u8],
-    uses: &mut [u8],
+    types: &mut [u8],
 )
     requires { ⌜ AtHand (now file) h (now candidates) (now merits) ⌝ }
     requires { ⌜ j < h .institutes ⌝ }
-    requires { ⌜ (length (now holders) ≡ h .candidates) × (length (now wanted) ≡ h .candidates) × (length (now uses) ≡ h .candidates) ⌝ }
-    ensures { λ _. ⌜ UsesAnew (roundOf (now (file .entry))) j (now (holders .entry)) (now (wanted .entry))
-        (now (uses .entry)) (now (uses .exit)) ⌝ }
+    requires { ⌜ (length (now holders) ≡ h .candidates) × (length (now wanted) ≡ h .candidates) × (length (now types) ≡ h .candidates) ⌝ }
+    ensures { λ _. ⌜ TypesAnew (roundOf (now (file .entry))) j (now (holders .entry)) (now (wanted .entry))
+        (now (types .entry)) (now (types .exit)) ⌝ }
 {
     let mut who = nobody();
     let mut chosen = zeros();
@@ -56,32 +57,34 @@ fn use_anew(
         j,
         holders,
         wanted,
+        true,
         &mut who,
         &mut chosen,
         &mut used,
     );
-    scatter(&who[..k], &used[..k], uses);
+    scatter(&who[..k], &used[..k], types);
 }
 
-// Notes for each candidate who is seated whether it is for use, 1 or 0, where two arrays hold the list of the round.
-pub fn note_uses(
+// The type used for each candidate, 0 for none, where two arrays hold the list of the round.
+pub fn note_types(
     file: &[u8],
     h: Head,
     candidates: &[usize],
     merits: &[usize],
     holders: &[u8],
     steps: &[u8],
-    uses: &mut [u8],
+    types: &mut [u8],
 )
     requires { ⌜ AtHand (now file) h (now candidates) (now merits) ⌝ }
     requires { ⌜ HeldIn (seats (roundOf (now file))) (now holders) (now steps) ⌝ }
-    requires { ⌜ length (now uses) ≡ h .candidates ⌝ }
-    ensures { λ _. ⌜ UsesNoted (roundOf (now (file .entry))) (instituteCount (roundOf (now (file .entry)))) (now (holders .entry)) (now (uses .exit)) ⌝ }
+    requires { ⌜ length (now types) ≡ h .candidates ⌝ }
+    ensures { λ _. ⌜ now (types .exit) ≡ typesUsed (roundOf (now (file .entry))) ⌝ }
 {
     let n = h.candidates;
+    clear(types, n);
     let mut wanted = zeros();
     seats_wanted(steps, &mut wanted[..n]);
     for j in 0..h.institutes {
-        use_anew(file, h, candidates, merits, j, holders, &wanted[..n], uses);
+        type_anew(file, h, candidates, merits, j, holders, &wanted[..n], types);
     }
 }

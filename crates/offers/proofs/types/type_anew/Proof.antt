@@ -1,15 +1,15 @@
--- `offers::uses::use_anew` meets its contract: the notes of use are put into the table. Assumes nothing.
+-- `offers::types::type_anew` meets its contract: the types used are put into the table. Assumes nothing.
 use Prim.Native.Nat.{ℕ, _≤_}
-use mathlib.Core.Path.{_≡_, sym, _∙_}
+use mathlib.Core.Path.{_≡_, refl, sym, _∙_}
 use mathlib.Core.List.{List}
 use native.Mathlib.Omega.{arith}
 use lib.ListN.{length, take}
 use lib.Seq.{length-take-le}
 use Rattle.offers.proofs.Sweeps.Known.{zeros-room, candidates-many}
-use Rattle.offers.proofs.Sweeps.Choosing.{who-apart, uses-put}
+use Rattle.offers.proofs.Sweeps.Choosing.{who-apart, types-put}
 use borrow.Author.Needs.{needs}
-use Rattle.offers.proofs.uses.use_anew.Statement.{statement}
-use Rattle.offers.proofs.uses.use_anew.Tie as tie
+use Rattle.offers.proofs.types.type_anew.Statement.{statement}
+use Rattle.offers.proofs.types.type_anew.Tie as tie
 
 -- those who take part stand at the front of each table
 module _ (c : tie.After-choose-listed) where
@@ -17,10 +17,10 @@ module _ (c : tie.After-choose-listed) where
   k = c .choose-listed .result
 
   abbrev who : List ℕ
-  who = c .choose-listed .last .1 .1 .1 .1 .1 .1 .1 .0
+  who = c .choose-listed .last .1 .1 .1 .1 .1 .1 .1 .1 .0
 
   abbrev used : List ℕ
-  used = c .choose-listed .last .1 .1 .1 .1 .1 .1 .1 .1 .1 .0
+  used = c .choose-listed .last .1 .1 .1 .1 .1 .1 .1 .1 .1 .1 .0
 
   who-fits : k ≤ length who
   who-fits = search needs
@@ -80,10 +80,10 @@ returns : tie.Need-returns
 returns c =
     let put : tie.After-scatter = search needs in
     let listed : tie.After-choose-listed = search needs in
-    uses-put (listed .choose-listed .ensures) (who-fits listed) (put .scatter .ensures)
+    types-put (listed .choose-listed .ensures) refl (who-fits listed) (put .scatter .ensures)
 
-pub use-anew-spec : {M : Type 1} → statement M
-use-anew-spec =
+pub type-anew-spec : {M : Type 1} → statement M
+type-anew-spec =
     tie.close
     (tie.spec
     nobody-requires

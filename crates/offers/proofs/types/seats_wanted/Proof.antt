@@ -1,14 +1,14 @@
--- `offers::uses::seats_wanted` meets its contract: the loop keeps `SeatsWanted`. Assumes nothing.
+-- `offers::types::seats_wanted` meets its contract: the loop keeps `SeatsWanted`. Assumes nothing.
 use Prim.Native.Nat.{_-_, _≤_}
 use mathlib.Core.Path.{_≡_, refl}
 use mathlib.Core.Logic.{⊎-elim}
 use native.Mathlib.Omega.{arith}
 use lib.ListN.{length}
 use borrow.Author.Needs.{needs}
-use Rattle.offers.specs.Uses.{SeatsWanted}
-use Rattle.offers.proofs.Sweeps.Uses.{none-wanted, one-unseated, one-wanted, all-wanted}
-use Rattle.offers.proofs.uses.seats_wanted.Statement.{statement}
-use Rattle.offers.proofs.uses.seats_wanted.Tie as tie
+use Rattle.offers.specs.Types.{SeatsWanted}
+use Rattle.offers.proofs.Sweeps.Types.{none-wanted, one-unseated, one-wanted, all-wanted}
+use Rattle.offers.proofs.types.seats_wanted.Statement.{statement}
+use Rattle.offers.proofs.types.seats_wanted.Tie as tie
 
 abbrev Inv-loop : tie.InvT-loop
 Inv-loop steps wanted₀ i₀ i-end wanted i = (i ≤ i-end) × (i-end ≡ length steps) × SeatsWanted i steps wanted

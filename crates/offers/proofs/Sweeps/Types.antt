@@ -1,13 +1,13 @@
--- The notes of use: the offers that the seats stand for, and what is noted as one institute after the other chooses from its seats.
+-- The types used: the offers that the seats stand for, and what is noted as one institute after the other chooses from its seats.
 use Prim.Native.Nat.{ℕ, suc, _+_, _-_, _^_, _<_}
 use mathlib.Core.Path.{_≡_, refl, sym, _∙_, ap}
-use mathlib.Core.Bool.{true, cond, not, _&&_}
-use mathlib.Core.Logic.{_≢_}
-use mathlib.Core.List.{List}
+use mathlib.Core.Bool.{true, not, _&&_}
+use mathlib.Core.Logic.{_≢_, _⊎_, inl, inr}
+use mathlib.Core.List.{List, _++_}
 use native.Mathlib.Omega.{arith}
 use native.Mathlib.Decide.{decLt}
-use lib.ListN.{length, getD, set, length-set}
-use lib.Seq.{getD-set-same, getD-set-other}
+use lib.ListN.{length, getD, set, length-set, replicate}
+use lib.Seq.{getD-set-same, getD-set-other, ext-getD}
 use borrow.Author.Tests.{eq-eqb, ne-eqb, lt-ltb}
 use Rattle.round.specs.declared.entry.Category.{Category}
 use Rattle.round.specs.declared.head.Head.{Head as CodeHead}
@@ -16,26 +16,28 @@ use Rattle.round.specs.Round.{Round}
 use Rattle.round.specs.Sound.{Sound}
 use Rattle.round.specs.Records.{headOf}
 use Rattle.round.specs.Reading.{roundOf}
+use Rattle.round.proofs.Words.{cleared}
 use Rattle.round.proofs.Sound.{length-institutes, step-category}
 use Rattle.choice.specs.Use.{holds}
-use Rattle.choice.specs.Account.{usedIn, StepAccount}
+use Rattle.choice.specs.Account.{typeIn, StepAccount}
 use Rattle.choice.proofs.Counting.{sameOr, and-true}
+use Rattle.choice.proofs.Tabulate.{getD-zeros}
 use Rattle.offers.specs.Rows.{sameCategory, categoryAt}
-use Rattle.offers.specs.Offers.{placeOn, usedFor}
-use Rattle.offers.specs.Process.{Seat, candidateCount, instituteCount, madeTo, tried, seats, accountAtEnd}
+use Rattle.offers.specs.Offers.{placeOn, typeFor}
+use Rattle.offers.specs.Process.{Seat, candidateCount, instituteCount, madeTo, tried, seats, accountAtEnd, typesUsed}
 use Rattle.offers.specs.Stable.{given}
 use Rattle.offers.specs.Standing.{isStep}
 use Rattle.offers.specs.Held.{AtHand, HeldIn}
 use Rattle.offers.specs.Sweeps.{offerTo, offersBy, takesPart}
-use Rattle.offers.specs.Uses.{SeatsWanted, UsesAnew, UsesNoted}
+use Rattle.offers.specs.Types.{SeatsWanted, TypesAnew, TypesNoted}
 use Rattle.offers.proofs.Rounds.Places.{meritLength}
 use Rattle.offers.proofs.Rounds.Agreed.{step-number, step-absent}
-use Rattle.offers.proofs.Rounds.Seats.{stepIn}
+use Rattle.offers.proofs.Rounds.Seats.{stepIn, Seated, Unseated, seat-of}
 use Rattle.offers.proofs.Rounds.Process.{tried-running}
 use Rattle.offers.proofs.Rounds.Bounds.{list-length}
 use Rattle.offers.proofs.Rounds.Standing.{is-step}
 use Rattle.offers.proofs.Rounds.Given.{seated-at}
-use Rattle.offers.proofs.Rounds.AccountRound.{account-seats}
+use Rattle.offers.proofs.Rounds.AccountRound.{account-seats, types-seated, types-length, types-unseated}
 use Rattle.offers.proofs.Sweeps.Known.{candidates-many, institutes-many, round-sound}
 use Rattle.offers.proofs.Sweeps.Lasts.{holds-only, holds-none, only-some, no-part}
 
@@ -78,12 +80,16 @@ module _ {file : List ℕ} {h : CodeHead} {candidates merits : List ℕ} (hand :
   pub wanted-each : {k : ℕ} {holders steps wanted : List ℕ} → HeldIn (seats (roundOf file)) holders steps → SeatsWanted k steps wanted → length wanted ≡ h .candidates
   wanted-each list wants = wants .many ∙ steps-each list
 
-  pub uses-each : {k : ℕ} {holders uses : List ℕ} → UsesNoted (roundOf file) k holders uses → length uses ≡ h .candidates
-  uses-each noted = noted .many ∙ candidates-many hand
+  pub types-each : {k : ℕ} {holders types : List ℕ} → TypesNoted (roundOf file) k holders types → length types ≡ h .candidates
+  types-each noted = noted .many ∙ candidates-many hand
 
-  -- before any institute has chosen
-  pub none-noted : {holders uses : List ℕ} → length uses ≡ h .candidates → UsesNoted (roundOf file) 0 holders uses
-  none-noted many = record { many = many ∙ sym (candidates-many hand); noted = λ i j hi l. absurd (omega arith) }
+  -- before any institute has chosen nobody has a type
+  pub none-noted : {holders types : List ℕ} (rest : List ℕ) → length types ≡ h .candidates → types ≡ replicate (h .candidates) 0 ++ rest → TypesNoted (roundOf file) 0 holders types
+  none-noted rest many e = record {
+    many = many ∙ sym (candidates-many hand);
+    noted = λ i j hi l. absurd (omega arith);
+    others = λ i hi none. rw (cleared _ rest _ e many) (getD-zeros (h .candidates) i);
+  }
 
 -- two arrays hold the list of the round, and a third the sets of its seats' categories
 module _ {file : List ℕ} {h : CodeHead} {candidates merits : List ℕ} (hand : AtHand file h candidates merits)
@@ -134,26 +140,50 @@ module _ {file : List ℕ} {h : CodeHead} {candidates merits : List ℕ} (hand :
       (λ e. rw (e, eq-eqb (suc j) (suc j) refl) (held-given i j hi hj e c))
       (λ d. rw (ne-eqb (getD holders i 0) (suc j) d) (holds-none c)))
 
-  -- whom institute j takes for use from its seats it takes for use from all offers made to it
-  used-same : (i j : ℕ) → j < instituteCount r → usedFor r j (offersBy (offerTo (suc j) holders wanted)) i ≡ usedFor r j (madeTo r (tried r) j) i
-  unfolding usedFor accountAtEnd
-  used-same i j hj =
-      ap (λ (account : List StepAccount). cond (usedIn account (placeOn r j i)) 1 0)
+  -- the types that institute j uses when it chooses from its seats are those that it uses when it chooses from all offers made to it
+  type-same : (i j : ℕ) → j < instituteCount r → typeFor r j (offersBy (offerTo (suc j) holders wanted)) i ≡ typeFor r j (madeTo r (tried r) j) i
+  unfolding typeFor accountAtEnd
+  type-same i j hj =
+      ap (λ (account : List StepAccount). typeIn account (placeOn r j i))
       (account-seats sound j hj (offersBy (offerTo (suc j) holders wanted)) (λ k hk c. offers-given k j c hk hj))
 
   -- one institute more
-  pub one-noted : {k : ℕ} {uses uses' : List ℕ} → k < h .institutes → UsesNoted (roundOf file) k holders uses → UsesAnew (roundOf file) k holders wanted uses uses'
-      → UsesNoted (roundOf file) (k + 1) holders uses'
-  one-noted {k} {uses} {uses'} l u a = record {
+  pub one-noted : {k : ℕ} {types types' : List ℕ} → k < h .institutes → TypesNoted (roundOf file) k holders types
+      → TypesAnew (roundOf file) k holders wanted types types' → TypesNoted (roundOf file) (k + 1) holders types'
+  one-noted {k} {types} {types'} l u a = record {
     many = a .many ∙ u .many;
     noted = λ i j hi m e.
         sameOr j k
         (λ s.
         let at : getD holders i 0 ≡ suc k = e ∙ ap suc s in
         let hk : k < instituteCount r = omega (arith, institutes-many hand) in
-        rw s (a .at i hi ∙ rw (held-part i k hi hk at) (used-same i k hk)))
+        rw s (a .at i hi ∙ rw (held-part i k hi hk at) (type-same i k hk)))
         (λ d. a .at i hi ∙ rw (no-part r k holders wanted i (λ z. d (omega arith))) (u .noted i j hi (omega arith) e));
+    others = λ i hi none.
+        a .at i hi ∙ rw (no-part r k holders wanted i (none k (omega arith))) (u .others i hi (λ j m. none j (omega arith)));
   }
 
-pub all-noted : (n : ℕ) {r : Round} {k : ℕ} {holders uses : List ℕ} → k ≡ n → UsesNoted r k holders uses → UsesNoted r n holders uses
-all-noted n e u = rw e at u
+-- two arrays hold the list of the round
+module _ {file : List ℕ} {h : CodeHead} {candidates merits : List ℕ} (hand : AtHand file h candidates merits)
+    {holders steps : List ℕ} (list : HeldIn (seats (roundOf file)) holders steps) where
+  -- every institute has chosen, and the types are those of the round
+  pub all-noted : {k : ℕ} {types : List ℕ} → k ≡ h .institutes → TypesNoted (roundOf file) k holders types → types ≡ typesUsed (roundOf file)
+  unfolding seats
+  all-noted {k} {types} e u =
+      ext-getD 0 types (typesUsed (roundOf file)) (u .many ∙ sym (types-length (roundOf file)))
+      (λ i l. at i (omega (arith, u .many)) (seat-of sound (tried-running sound) i (omega (arith, u .many))))
+    where
+      sound : Sound (headOf file .types) (roundOf file)
+      sound = round-sound hand
+
+      at : (i : ℕ) → i < candidateCount (roundOf file) → Seated (roundOf file) (tried (roundOf file)) i ⊎ Unseated (roundOf file) (tried (roundOf file)) i
+          → getD types i 0 ≡ getD (typesUsed (roundOf file)) i 0
+      at i hi (inl s) =
+          let seat = list .seat i (omega (arith, list-length (roundOf file))) in
+          let held : getD holders i 0 ≡ suc (s .institute) = sym (ap (λ (x : Seat). x .institute) seat) ∙ ap (λ (x : Seat). x .institute) (s .seat) in
+          u .noted i (s .institute) hi (omega (arith, institutes-many hand, s .inside)) held
+          ∙ sym (types-seated sound (s .institute) (s .inside) i hi (ap (λ (x : Seat). x .institute) (s .seat)))
+      at i hi (inr s) =
+          let seat = list .seat i (omega (arith, list-length (roundOf file))) in
+          let held : getD holders i 0 ≡ 0 = sym (ap (λ (x : Seat). x .institute) seat) ∙ ap (λ (x : Seat). x .institute) (s .seat) in
+          u .others i hi (λ j m z. omega arith) ∙ sym (types-unseated (roundOf file) i hi (s .seat))

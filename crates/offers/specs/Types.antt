@@ -1,0 +1,29 @@
+-- The types used when the process has ended: each institute chooses once more, from its seats. By law it uses the types that it uses when it
+-- chooses from all offers ever made to it.
+use Prim.Native.Nat.{ℕ, suc, _-_, _^_, _<_}
+use mathlib.Core.Path.{_≡_}
+use mathlib.Core.Logic.{_≢_}
+use mathlib.Core.List.{List}
+use lib.ListN.{length, getD}
+use Rattle.round.specs.Category.{codeOf, categoryOf}
+use Rattle.round.specs.Round.{Round}
+use Rattle.offers.specs.Offers.{typeFor}
+use Rattle.offers.specs.Process.{candidateCount, madeTo, tried}
+use Rattle.offers.specs.Sweeps.{offerTo, offersBy, PutFor}
+
+-- a table has for each of the first k candidates who has a step the set of the step's category
+pub record SeatsWanted (k : ℕ) (steps wanted : List ℕ) : Type 0 where
+  pub many : length wanted ≡ length steps
+  pub at : (i : ℕ) → i < k → getD steps i 0 ≢ 0 → getD wanted i 0 ≡ 2 ^ codeOf (categoryOf (getD steps i 0 - 1))
+
+-- institute j has chosen from its seats, and the types that it used are noted
+abbrev pub TypesAnew : Round → ℕ → List ℕ → List ℕ → List ℕ → List ℕ → Type 0
+TypesAnew r j holders wanted types₀ types =
+    PutFor r j (offerTo (suc j) holders wanted) (typeFor r j (offersBy (offerTo (suc j) holders wanted))) types₀ types
+
+-- whoever is held by one of the first k institutes has the type that it uses when it chooses from all offers ever made to it, and nobody else
+-- has one
+pub record TypesNoted (r : Round) (k : ℕ) (holders types : List ℕ) : Type 0 where
+  pub many : length types ≡ candidateCount r
+  pub noted : (i j : ℕ) → i < candidateCount r → j < k → getD holders i 0 ≡ suc j → getD types i 0 ≡ typeFor r j (madeTo r (tried r) j) i
+  pub others : (i : ℕ) → i < candidateCount r → ((j : ℕ) → j < k → getD holders i 0 ≢ suc j) → getD types i 0 ≡ 0
