@@ -33,6 +33,7 @@ answerBytes r =
     ++ joined (tabulate (instituteCount r) (closingBytes r))
     ++ typesUsed r
 
+-- the bytes of both areas that question 14 asks for
 abbrev pub answerSize : Round → ℕ
 answerSize r = 3 * candidateCount r + 12 * instituteCount r
 

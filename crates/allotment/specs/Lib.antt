@@ -1,6 +1,7 @@
 pub mod Areas
 pub mod Outcome
 pub mod Truthful
+pub mod Types
 pub mod Promise
 pub mod Writing
 pub mod Handing

@@ -1,4 +1,5 @@
--- What a call answers and what it leaves in both areas (document 01, "The questions, in order" and "Offers"), for every input.
+-- What a call answers and what it leaves in both areas (document 01, "The questions, in order" and "Offers"; document 02, Point 3), for every
+-- input.
 use Prim.Native.Nat.{ℕ}
 use mathlib.Core.Path.{_≡_}
 use mathlib.Core.Bool.{cond, _&&_}

@@ -11,13 +11,13 @@ use Rattle.offers.specs.Process.{candidateCount}
 use Rattle.allotment.specs.Areas.{seatsIn}
 use Rattle.allotment.specs.Outcome.{outcomeOf, outcome, answerAfter, workAfter, Accepted}
 use Rattle.allotment.specs.Truthful.{Truthful}
+use Rattle.allotment.specs.Types.{Published}
 use Rattle.offers.specs.Ended.{AtEnd}
 use Rattle.offers.specs.Orders.{AnyOrder}
-use Rattle.offers.specs.FirstTypes.{FirstTypes}
 use Rattle.offers.specs.Stable.{Stable}
 
--- of a call on a file with both lent areas: its answer, and what stands in the areas afterwards; `process`, `anyOrder` and `types` speak of the
--- file's round, whose number of offers, seats and types are those of the answer and the answer area
+-- of a call on a file with both lent areas: its answer, and what stands in the areas afterwards; `process` and `anyOrder` speak of the file's
+-- round, whose number of offers and seats are those of the answer and the answer area
 pub record Promise (file answer work : List ℕ) (result : Answer) (answerNow workNow : List ℕ) : Type 0 where
   pub answered : outcomeOf result ≡ outcome file (length answer) (length work)
   pub answerArea : answerNow ≡ answerAfter file answer work
@@ -26,4 +26,4 @@ pub record Promise (file answer work : List ℕ) (result : Answer) (answerNow wo
   pub stable : Accepted file answer work → Stable (roundOf file) (seatsIn (candidateCount (roundOf file)) answerNow)
   pub process : Accepted file answer work → AtEnd (roundOf file)
   pub anyOrder : Accepted file answer work → AnyOrder (roundOf file)
-  pub types : Accepted file answer work → FirstTypes (roundOf file)
+  pub types : Accepted file answer work → Published (roundOf file) answerNow

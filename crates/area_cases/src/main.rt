@@ -109,7 +109,7 @@ fn cut(answering: usize, working: usize)
 }
 
 fn main() {
-    // 3n + 12m = 21 and 8n = 24 for file A; 2n + 12m = 18
+    // 3n + 12m = 21 and 8n = 24 for file A; 18 bytes hold no type
     file_a(18, 24);
     file_a(20, 24);
     file_a(21, 24);

@@ -34,6 +34,14 @@ count-within k (suc n) X h = go (eqb k (suc n)) refl (count-within k n X)
     go true e _ = rw (eqb-true k (suc n) e) (omega arith)
     go false e rest = omega (arith, rest (omega (arith, eqb-false k (suc n) e)))
 
+-- the numbers below p, and those from p on
+pub count-from : (n p m : ℕ) (X : ℕ → Bool) → n ≡ p + m → count n X ≡ count p X + count m (λ i. X (p + i))
+count-from n p zero X e = let same : n ≡ p = omega arith in omega (arith, ap (λ (k : ℕ). count k X) same)
+count-from zero p (suc m) X e = absurd (omega arith)
+count-from (suc n) p (suc m) X e =
+    let last : n ≡ p + m = omega arith in
+    omega (arith, count-from n p m X last, ap (λ (k : ℕ). bit (X k)) last)
+
 -- the numbers from k on fail the test
 pub count-rest : (k n : ℕ) (X : ℕ → Bool) → ((q : ℕ) → k ≤ q → X q ≡ false) → count n X ≤ count k X
 count-rest k zero X h = omega arith

@@ -29,7 +29,7 @@ pub oneLess-other : (reserved : List ℕ) (t u : ℕ) → u ≢ t → getD (oneL
 unfolding oneLess
 oneLess-other reserved t u n = getD-set-other reserved t u _ 0 n
 
-oneLess-le : (reserved : List ℕ) (t u : ℕ) → u < length reserved → getD (oneLess reserved t) u 0 ≤ getD reserved u 0
+pub oneLess-le : (reserved : List ℕ) (t u : ℕ) → u < length reserved → getD (oneLess reserved t) u 0 ≤ getD reserved u 0
 oneLess-le reserved t u l =
     sameOr u t
     (λ u≡t. rw u≡t (omega (arith, oneLess-same reserved t (omega arith))))

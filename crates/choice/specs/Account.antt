@@ -33,7 +33,7 @@ tookByMerit step p = getD (step .byMerit) p false
 abbrev pub typeUsed : StepAccount → ℕ → ℕ
 typeUsed step p = getD (step .types) p 0
 
--- the steps of an account have numbers from 1; beyond the last stands one that did nothing
+-- the steps of an account have numbers from 1, and 0 is never asked for; beyond the last stands one that did nothing
 abbrev pub accountOf : List StepAccount → ℕ → StepAccount
 accountOf steps k = getD steps (k - 1) (record { positions = 0; forUse = []; byMerit = []; types = []; vacant = 0 })
 
@@ -67,7 +67,7 @@ unfoldable pub usedIn : List StepAccount → ℕ → Bool
 usedIn [] p = false
 usedIn (step ∷ steps) p = tookForUse step p || usedIn steps p
 
--- the type, from 1, that some step used for place p; 0 where no step took it for use
+-- the type, from 1, that the first step used for place p that took it for use, by law the only one; 0 where none did
 unfoldable pub typeIn : List StepAccount → ℕ → ℕ
 typeIn [] p = 0
 typeIn (step ∷ steps) p = cond (tookForUse step p) (typeUsed step p) (typeIn steps p)
@@ -76,7 +76,8 @@ typeIn (step ∷ steps) p = cond (tookForUse step p) (typeUsed step p) (typeIn s
 unfoldable pub typesIn : ℕ → List StepAccount → List ℕ
 typesIn n steps = tabulate n (typeIn steps)
 
--- those whom a step took for use, down the merit list, have the smallest of all placings that place them all; the others have no type
+-- down the merit list, those whom by its account a step took for use have the smallest of all placings that place them all; the others have
+-- no type
 pub record TypesFirst (reserved marks : List ℕ) (step : StepAccount) : Type 0 where
   pub first :
       Smallest reserved (gathered (tookForUse step) (length marks) (λ p. getD marks p 0)) (gathered (tookForUse step) (length marks) (typeUsed step))

@@ -15,7 +15,8 @@ unfoldable pub suits : List ℕ → ℕ → List ℕ → ℕ → Bool
 suits reserved marks others t =
     (holds marks t && ltb 0 (getD reserved t 0)) && eqb (useOf (oneLess reserved t) others) (length others)
 
--- a type, from 1, for each of these candidates, given by their marks: for the first the smallest that suits, then the rest
+-- a type, from 1, for each of these candidates, given by their marks: for the first the smallest that suits, then the rest; one more than the
+-- number of types where none suits, which is so only where they cannot all be placed
 unfoldable pub firstPlacing : List ℕ → List ℕ → List ℕ
 firstPlacing reserved [] = []
 firstPlacing reserved (marks ∷ others) =
@@ -27,7 +28,7 @@ pub record PlacesAll (reserved marks types : List ℕ) : Type 0 where
   pub placing : Placing reserved marks types
   pub everyone : placedIn types ≡ length marks
 
--- the types are no larger than others, the earlier ones weighing more: where all before are the same, none is larger
+-- the types are no larger than others, the earlier ones weighing more: at the first place where they differ, if there is one, these are smaller
 abbrev pub NoLarger : List ℕ → List ℕ → Type 0
 NoLarger types others = (i : ℕ) → ((k : ℕ) → k < i → getD types k 0 ≡ getD others k 0) → getD types i 0 ≤ getD others i 0
 
@@ -36,7 +37,7 @@ pub record Smallest (reserved marks types : List ℕ) : Type 0 where
   pub all : PlacesAll reserved marks types
   pub smallest : (others : List ℕ) → PlacesAll reserved marks others → NoLarger types others
 
--- of each place its type by the first placing of those at the places of a set, read down the places; 0 for the others
+-- of each place its type by the first placing of those at the places of a set, who can all be placed, read down the places; 0 for the others
 unfoldable pub typesOf : List ℕ → List ℕ → (ℕ → Bool) → List ℕ
 typesOf reserved marks X =
     let types : List ℕ = firstPlacing reserved (gathered X (length marks) (λ p. getD marks p 0)) in

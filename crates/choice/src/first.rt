@@ -1,17 +1,19 @@
-// The first placing, from any: down the places each gets the smallest type with which those before keep theirs and all are placed.
-use crate::placing::place;
+// The first placing, from any: down the places each gets the smallest type with which those before keep theirs and all are placed. A type that
+// was searched for in vain stays exhausted until somebody who has it is lowered.
 use crate::placing::to_try;
 use crate::take::copy;
 use crate::take::take_for_use;
+use crate::take::take_one;
+use round::clearing::clear;
 use round::clearing::zeros;
 use round::word::wide;
 ghost use mathlib.Core.Path.{_≡_};
 ghost use mathlib.Core.Bool.{true};
 ghost use Prim.Native.Nat.{_^_, _≤_, _<_};
-ghost use lib.ListN.{length, replicate};
+ghost use lib.ListN.{length, take, replicate};
 ghost use Rattle.choice.specs.Use.{Placing};
 ghost use Rattle.choice.specs.Offers.{considersBy};
-ghost use Rattle.choice.specs.Lowered.{Lowering, Lowered, PlacedFirst, TookTyped};
+ghost use Rattle.choice.specs.Lowered.{Reopened, Lowering, Lowered, LoweringFrom, LoweredFrom, PlacedFirst, TookTyped};
 
 // The marks of one type.
 fn only(t: usize) -> u8
@@ -21,25 +23,56 @@ fn only(t: usize) -> u8
     1 << t
 }
 
-// Gives place p the smallest type that it can have with all placed who are, and leaves it the marks of that type alone.
-fn lower(reserved: &[usize], marks: &mut [u8], placed: &mut [u8], p: usize)
-    requires { ⌜ Lowering (now reserved) (now marks) (now placed) p ⌝ }
-    ensures { λ _. ⌜ Lowered (now (reserved .entry)) (now (marks .entry)) (now (marks .exit)) (now (placed .entry)) (now (placed .exit)) p ⌝ }
+// The positions of each type, in an area of their own.
+fn positions_of(reserved: &[usize]) -> [usize; 8]
+    requires { ⌜ length (now reserved) ≤ 8 ⌝ }
+    ensures { λ r. ⌜ (length r ≡ 8) × (take (length (now (reserved .entry))) r ≡ now (reserved .entry)) ⌝ }
 {
-    let own = marks[p];
-    let last = wide(placed[p]) - 1;
-    let mut visited = [0u8; 8];
-    placed[p] = 0;
+    let mut room = [0usize; 8];
+    for t in 0..reserved.len() {
+        room[t] = reserved[t];
+    }
+    room
+}
+
+// Forgets what is exhausted where type u is.
+fn reopen(exhausted: &mut [u8], u: usize)
+    requires { ⌜ (length (now exhausted) ≡ 8) × (u < 8) ⌝ }
+    ensures { λ _. ⌜ Reopened (now (exhausted .entry)) (now (exhausted .exit)) u ⌝ }
+{
+    if exhausted[u] != 0 {
+        clear(exhausted, 8);
+    }
+}
+
+// Gives the front place the smallest type that it can have with all placed who are.
+fn lower(room: &[usize], marks: &mut [u8], placed: &mut [u8], exhausted: &mut [u8])
+    requires { ⌜ Lowering (now room) (now marks) (now placed) (now exhausted) ⌝ }
+    ensures { λ _. ⌜ Lowered (now (room .entry)) (now (marks .entry)) (now (marks .exit)) (now (placed .entry)) (now (placed .exit)) (now (exhausted .exit)) ⌝ }
+{
+    let own = marks[0];
+    let last = wide(placed[0]) - 1;
+    placed[0] = 0;
     for t in 0..last {
-        if to_try(own, &visited, t) {
-            marks[p] = only(t);
-            if place(reserved, marks, placed, &mut visited, p) {
+        if to_try(own, exhausted, t) {
+            marks[0] = only(t);
+            if take_one(room, marks, placed, exhausted, 0) {
                 return;
             }
         }
     }
-    marks[p] = only(last);
-    placed[p] = (last + 1) as u8;
+    placed[0] = (last + 1) as u8;
+}
+
+// Gives place p the smallest type that it can have with those before it as they are and all placed who are, and takes a position of that
+// type away.
+fn lower_at(room: &mut [usize], marks: &mut [u8], placed: &mut [u8], exhausted: &mut [u8], p: usize)
+    requires { ⌜ LoweringFrom (now room) (now marks) (now placed) (now exhausted) p ⌝ }
+    ensures { λ _. ⌜ LoweredFrom (now (room .entry)) (now (room .exit)) (now (marks .entry)) (now (marks .exit)) (now (placed .entry)) (now (placed .exit)) (now (exhausted .exit)) p ⌝ }
+{
+    reopen(exhausted, wide(placed[p]) - 1);
+    lower(room, &mut marks[p..], &mut placed[p..], exhausted);
+    room[wide(placed[p]) - 1] -= 1;
 }
 
 // Lowers the types of all places, one after the other.
@@ -48,12 +81,21 @@ fn lower_all(reserved: &[usize], marks: &[u8], placed: &mut [u8])
     requires { ⌜ Placing (now reserved) (now marks) (now placed) ⌝ }
     ensures { λ _. ⌜ PlacedFirst true (now (reserved .entry)) (now (marks .entry)) (now (placed .entry)) (now (placed .exit)) ⌝ }
 {
+    let types = reserved.len();
     let n = marks.len();
     let mut held = zeros();
     copy(marks, &mut held[..n]);
+    let mut room = positions_of(reserved);
+    let mut exhausted = [0u8; 8];
     for p in 0..n {
         if placed[p] != 0 {
-            lower(reserved, &mut held[..n], placed, p);
+            lower_at(
+                &mut room[..types],
+                &mut held[..n],
+                placed,
+                &mut exhausted,
+                p,
+            );
         }
     }
 }

@@ -55,7 +55,7 @@ fn some_open(exhausted: &[u8], types: usize) -> bool
 }
 
 // Places p with those taken before, if that can be; what a search in vain visited is exhausted.
-fn take_one(
+pub fn take_one(
     reserved: &[usize],
     marks: &[u8],
     placed: &mut [u8],

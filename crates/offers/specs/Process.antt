@@ -91,8 +91,8 @@ module _ (r : Round) where
   unfoldable pub accountAtEnd : ℕ → List StepAccount
   accountAtEnd j = accountOn r j (madeTo tried j)
 
-  -- the type under which candidate i is seated (document 02, Point 3), by the list and these accounts: the one that the seat's step used at the
-  -- candidate's merit place, which is 0 where the step took it in its fill by merit; 0 for no seat
+  -- the type under which candidate i is seated (document 02, Point 3), by the list and the accounts of the choices that gave it: the one that the
+  -- seat's step used at the candidate's merit place, which is 0 where the step took the candidate in its fill by merit; 0 for no seat
   unfoldable pub typeBy : List Seat → List (List StepAccount) → ℕ → ℕ
   typeBy list accounts i =
       let seat = getD list i noSeat in

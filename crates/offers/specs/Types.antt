@@ -11,7 +11,7 @@ use Rattle.offers.specs.Offers.{typeFor}
 use Rattle.offers.specs.Process.{candidateCount, madeTo, tried}
 use Rattle.offers.specs.Sweeps.{offerTo, offersBy, PutFor}
 
--- a table has for each of the first k candidates who has a step the set of the step's category
+-- a table has for each of the first k candidates who has a step the set of the step's category; step 6 has number 5 there, which is open
 pub record SeatsWanted (k : ℕ) (steps wanted : List ℕ) : Type 0 where
   pub many : length wanted ≡ length steps
   pub at : (i : ℕ) → i < k → getD steps i 0 ≢ 0 → getD wanted i 0 ≡ 2 ^ codeOf (categoryOf (getD steps i 0 - 1))

@@ -9,7 +9,7 @@ use Rattle.round.specs.Lists.{tabulate, joined}
 use Rattle.round.specs.Round.{Round}
 use Rattle.round.specs.Sound.{Sound}
 use Rattle.choice.proofs.Tabulate.{tabulate-cong}
-use Rattle.offers.specs.Process.{Seat, noSeat, candidateCount, instituteCount, madeTo, offersMade, tried, seats, typesUsed}
+use Rattle.offers.specs.Process.{noSeat, candidateCount, instituteCount, madeTo, offersMade, tried, seats, typesUsed}
 use Rattle.offers.proofs.Rounds.Bounds.{merit-short}
 use Rattle.offers.proofs.Rounds.Agreed.{step-number}
 use Rattle.offers.proofs.Rounds.Seats.{Seated, Unseated, seat-of}

@@ -1,6 +1,6 @@
--- The starred rounds of document 01, "Worked rounds", with the closing places and types of document 02, Points 1 and 3: one table of file bytes,
--- what a call on them gives and what is printed, and one theorem, computed on the definitions from the bytes to the answer, both areas and the
--- text.
+-- The starred rounds of document 01, "Worked rounds", with the closing places and types of document 02, Points 1 and 3, and two rounds with more
+-- than one placing: one table of file bytes, what a call on them gives and what is printed, and one theorem, computed on the definitions from the
+-- bytes to the answer, both areas and the text.
 use Prim.Native.Nat.{ℕ}
 use Prim.Native.String.{String}
 use mathlib.Core.Path.{_≡_, refl}
@@ -93,6 +93,17 @@ bothTypes = 0x04 ∷ 0x00 ∷ 0x03 ∷ 0x00 ∷ 0x00 ∷ 0x03 ∷ 0x01 ∷ 0x00 
 abbrev secondType : Bytes
 secondType = 0x04 ∷ 0x00 ∷ 0x03 ∷ 0x00 ∷ 0x00 ∷ 0x02 ∷ 0x01 ∷ 0x00 ∷ []
 
+-- 2 candidates, 1 institute, 2 types, policy 0
+abbrev headOfTwo : Bytes
+headOfTwo = 0x08 ∷ 0x00 ∷ 0x01 ∷ 0x00 ∷ 0x02 ∷ 0x00 ∷ 0x01 ∷ 0x00 ∷ 0x02 ∷ 0x00 ∷ 0x00 ∷ 0x00 ∷ []
+
+-- the merit lists 1, 2 and 2, 1
+abbrev meritOfTwo : Bytes
+meritOfTwo = 0x04 ∷ 0x00 ∷ 0x04 ∷ 0x00 ∷ 0x01 ∷ 0x00 ∷ 0x02 ∷ 0x00 ∷ []
+
+abbrev meritTurned : Bytes
+meritTurned = 0x04 ∷ 0x00 ∷ 0x04 ∷ 0x00 ∷ 0x02 ∷ 0x00 ∷ 0x01 ∷ 0x00 ∷ []
+
 -- 1 candidate, 1 institute, no type, policy 0
 abbrev headOfOne : Bytes
 headOfOne = 0x08 ∷ 0x00 ∷ 0x01 ∷ 0x00 ∷ 0x01 ∷ 0x00 ∷ 0x01 ∷ 0x00 ∷ 0x00 ∷ 0x00 ∷ 0x00 ∷ 0x00 ∷ []
@@ -175,6 +186,12 @@ table =
     ∷
     -- open 2, one position each for types 1 and 2; merit 1, 2, 3 with types {1,2}, {1}, {2}
     shows (headOfTypes ∷ instituteOfTypes ∷ bothTypes ∷ markedOpen ∷ secondType ∷ meritOfA ∷ []) (allots 3 (seat 1 1 ∷ seat 1 1 ∷ seat 0 0 ∷ []) (0 ∷ 0 ∷ 0 ∷ 0 ∷ 0 ∷ 0 ∷ []) (2 ∷ 1 ∷ 0 ∷ []) "offers 3\n1 1 1 2\n2 1 1 1\n3 0 0 0\nclosing 1 0 0 0 0 0 0\n")
+    ∷
+    -- the same positions; merit 1, 2, both with types {1,2}
+    shows (headOfTwo ∷ instituteOfTypes ∷ bothTypes ∷ bothTypes ∷ meritOfTwo ∷ []) (allots 2 (seat 1 1 ∷ seat 1 1 ∷ []) (0 ∷ 0 ∷ 0 ∷ 0 ∷ 0 ∷ 0 ∷ []) (1 ∷ 2 ∷ []) "offers 2\n1 1 1 1\n2 1 1 2\nclosing 1 0 0 0 0 0 0\n")
+    ∷
+    -- the same with merit 2, 1
+    shows (headOfTwo ∷ instituteOfTypes ∷ bothTypes ∷ bothTypes ∷ meritTurned ∷ []) (allots 2 (seat 1 1 ∷ seat 1 1 ∷ []) (0 ∷ 0 ∷ 0 ∷ 0 ∷ 0 ∷ 0 ∷ []) (2 ∷ 1 ∷ []) "offers 2\n1 1 1 2\n2 1 1 1\nclosing 1 0 0 0 0 0 0\n")
     ∷
     -- one candidate with an empty row
     shows (headOfOne ∷ oneOpen ∷ emptyRow ∷ meritOfOne ∷ []) (allots 0 (seat 0 0 ∷ []) (0 ∷ 0 ∷ 0 ∷ 0 ∷ 0 ∷ 0 ∷ []) (0 ∷ []) "offers 0\n1 0 0 0\nclosing 1 0 0 0 0 0 0\n")

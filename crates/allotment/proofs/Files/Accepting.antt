@@ -10,10 +10,10 @@ use Rattle.round.specs.Round.{Round}
 use Rattle.round.specs.Reading.{roundOf}
 use Rattle.round.specs.Refusal as Refusal
 use Rattle.round.specs.Refusal.{Verdict, verdict, passes}
-use Rattle.offers.specs.Process.{noSeat, candidateCount, offersMade, seats}
-use Rattle.allotment.specs.Areas.{answerBytes, answerSize, workSize, seatIn, seatsIn}
+use Rattle.offers.specs.Process.{noSeat, candidateCount, instituteCount, offersMade, seats, typesUsed}
+use Rattle.allotment.specs.Areas.{answerBytes, answerSize, workSize, seatIn, seatsIn, typeStanding}
 use Rattle.allotment.specs.Outcome.{Outcome, allotted, refused, outcome, outcomeBy, answerAfter, workAfter, Accepted}
-use Rattle.allotment.proofs.Files.AreaSeats.{length-answer, seat-stands, seats-stand}
+use Rattle.allotment.proofs.Files.AreaSeats.{length-answer, seat-stands, seats-stand, type-stands}
 
 no-room : (b : Bool) (here there : Outcome) → cond (b && false) here there ≡ there
 no-room true here there = refl
@@ -76,6 +76,10 @@ module _ (file answer work : List ℕ) (accepted : Accepted file answer work) wh
 
   pub seat-after : (i : ℕ) → i < candidateCount (roundOf file) → seatIn (answerAfter file answer work) i ≡ getD (seats (roundOf file)) i noSeat
   seat-after i l = rw (answer-written file answer work (accepted .0) (accepted .1)) (seat-stands (roundOf file) _ i l)
+
+  pub type-after : (i : ℕ) → i < candidateCount (roundOf file)
+      → typeStanding (candidateCount (roundOf file)) (instituteCount (roundOf file)) (answerAfter file answer work) i ≡ getD (typesUsed (roundOf file)) i 0
+  type-after i l = rw (answer-written file answer work (accepted .0) (accepted .1)) (type-stands (roundOf file) _ i l)
 
   pub seats-after : seatsIn (candidateCount (roundOf file)) (answerAfter file answer work) ≡ seats (roundOf file)
   seats-after = rw (answer-written file answer work (accepted .0) (accepted .1)) (seats-stand (roundOf file) _)

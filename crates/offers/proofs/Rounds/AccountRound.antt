@@ -1,7 +1,8 @@
 -- When the process of a sound round has ended: an institute's account from any offers between its seats and all offers made to it is the one
 -- from all of them, and says which seats were given by merit and which type was used for each.
 use mathlib.Core.Path.{_≡_, refl, sym, _∙_, ap}
-use mathlib.Core.Bool.{true, cond, not, _&&_}
+use mathlib.Core.Bool.{true, not, _&&_}
+use mathlib.Core.Logic.{_⊎_, inl, inr}
 use mathlib.Core.List.{[]}
 use Prim.Native.Nat.{ℕ, suc, _-_, _<_}
 use native.Mathlib.Omega.{arith}
@@ -19,12 +20,12 @@ use Rattle.choice.specs.Choice.{choose}
 use Rattle.choice.specs.Account.{tookByMerit, typeUsed, accountOf, usedIn}
 use Rattle.choice.proofs.Accounts.{merit-of, used-type, type-of}
 use Rattle.offers.specs.Offers.{OfferSet, marksOn, atPlaces, placeOn, stepsOn, accountOn, stepFor, typeFor}
-use Rattle.offers.specs.Process.{Seat, noSeat, isNone, candidateCount, instituteCount, madeTo, tried, seats, accountAtEnd, typeBy, typesUsed}
+use Rattle.offers.specs.Process.{Seat, noSeat, candidateCount, instituteCount, madeTo, tried, seats, accountAtEnd, typeBy, typesUsed}
 use Rattle.offers.specs.Stable.{given, stepOf}
 use Rattle.offers.proofs.Rounds.Agreed.{merit-marks, same-account-on, step-absent}
 use Rattle.offers.proofs.Rounds.Running.{held-at, Running, one-at, held-made}
 use Rattle.offers.proofs.Rounds.Places.{meritLength}
-use Rattle.offers.proofs.Rounds.Seats.{stepIn}
+use Rattle.offers.proofs.Rounds.Seats.{stepIn, Seated, Unseated, seat-of}
 use Rattle.offers.proofs.Rounds.Process.{tried-running}
 use Rattle.offers.proofs.Rounds.Given.{seated-at, given-held, step-given}
 
@@ -79,18 +80,33 @@ module _ {types : ℕ} {r : Round} (sound : Sound types r) (j : ℕ) (hj : j < i
   unfolding accountAtEnd accountOn typeFor
   used-typed i l = used-type (marksOn r j) (atPlaces r j (madeTo r (tried r) j)) (instituteAt r j .steps) (placeOn r j i) (omega (arith, merit-marks r j))
 
+  -- the type of a candidate with a seat of the institute is the one that the seat's step used
+  pub types-at-step : (i k : ℕ) → i < candidateCount r → getD (seats r) i noSeat ≡ record { institute = suc j; step = suc k }
+      → getD (typesUsed r) i 0 ≡ typeUsed (accountOf (accountAtEnd r j) (suc k)) (placeOn r j i)
+  unfolding typesUsed typeBy
+  types-at-step i k hi at =
+      let here : suc j - 1 ≡ j = omega arith in
+      tabulate-at (candidateCount r) _ 0 i hi
+      ∙ rw (at, ne-eqb (suc j) 0 (λ z. omega arith), here, tabulate-at (instituteCount r) (accountAtEnd r) [] j hj)
+
   -- the type of a candidate whom the institute seats is the one that it uses
   pub types-seated : (i : ℕ) → i < candidateCount r → getD (seats r) i noSeat .institute ≡ suc j
       → getD (typesUsed r) i 0 ≡ typeFor r j (madeTo r (tried r) j) i
-  unfolding typesUsed typeBy seats
+  unfolding seats
   types-seated i hi e =
       let (d, at) = seated-at sound run i j hi hj e in
-      let here : suc j - 1 ≡ j = omega arith in
       let step : stepIn r (tried r) j i ≡ suc (stepIn r (tried r) j i - 1) = omega arith in
-      tabulate-at (candidateCount r) _ 0 i hi
-      ∙ ap (λ (s : Seat). cond (isNone s) 0 (typeUsed (accountOf (getD (tabulate (instituteCount r) (accountAtEnd r)) (s .institute - 1) []) (s .step)) (placeOn r (s .institute - 1) i))) at
-      ∙ rw (ne-eqb (suc j) 0 (λ z. omega arith), here, tabulate-at (instituteCount r) (accountAtEnd r) [] j hj)
-      (ap (λ s. typeUsed (accountOf (accountAtEnd r j) s) (placeOn r j i)) step ∙ sym (type-seated i (stepIn r (tried r) j i - 1) step))
+      types-at-step i (stepIn r (tried r) j i - 1) hi (at ∙ ap (λ s. record { institute = suc j; step = s }) step)
+      ∙ sym (type-seated i (stepIn r (tried r) j i - 1) step)
+
+-- a seat is of an institute of the round
+pub seat-inside : {types : ℕ} {r : Round} → Sound types r → (i j : ℕ) → i < candidateCount r → getD (seats r) i noSeat .institute ≡ suc j → j < instituteCount r
+unfolding seats
+seat-inside {r = r} sound i j hi e = go (seat-of sound (tried-running sound) i hi)
+  where
+    go : Seated r (tried r) i ⊎ Unseated r (tried r) i → j < instituteCount r
+    go (inl s) = omega (arith, s .inside, sym (ap (λ (x : Seat). x .institute) (s .seat)) ∙ e)
+    go (inr s) = absurd (omega (arith, sym (ap (λ (x : Seat). x .institute) (s .seat)) ∙ e))
 
 module _ (r : Round) where
   pub types-length : length (typesUsed r) ≡ candidateCount r
