@@ -21,7 +21,10 @@ pub mod TypesFirst
 pub mod Visits
 pub mod Written
 pub mod Down
-pub mod Lowering
+pub mod Blocked
+pub mod LowerFront
+pub mod LowerFrom
+pub mod LowerDown
 pub mod Fills
 pub mod Steps
 pub mod Choosing

@@ -4,7 +4,7 @@ use mathlib.Core.Path.{_≡_, refl, ap}
 use lib.ListN.{length, length-set}
 use native.Mathlib.Omega.{arith}
 use mathlib.Core.Logic.{⊎-elim}
-use Rattle.choice.proofs.Lowering.{Lowers, as-many-marks, untried, tries, missed, reached, skipped, kept-last, last-small}
+use Rattle.choice.proofs.LowerFront.{Lowers, as-many-marks, untried, tries, missed, reached, skipped, kept-last, last-small}
 use borrow.Author.Needs.{needs}
 use Rattle.choice.proofs.first.lower.Statement.{statement}
 use Rattle.choice.proofs.first.lower.Tie as tie

@@ -5,7 +5,7 @@ use mathlib.Core.Logic.{⊎-elim}
 use native.Mathlib.Omega.{arith}
 use lib.ListN.{length, take}
 use lib.Seq.{length-take-le}
-use Rattle.choice.proofs.Lowering.{front-written, LoweredTo, unlowered, lowered-all, lowering-from, lowered-none, lowered-one}
+use Rattle.choice.proofs.LowerDown.{front-written, LoweredTo, unlowered, lowered-all, lowering-from, lowered-none, lowered-one}
 use borrow.Author.Needs.{needs}
 use Rattle.choice.proofs.first.lower_all.Statement.{statement}
 use Rattle.choice.proofs.first.lower_all.Tie as tie

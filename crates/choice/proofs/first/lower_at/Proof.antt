@@ -1,6 +1,6 @@
 -- `choice::first::lower_at` meets its contract. Assumes nothing.
 use native.Mathlib.Omega.{arith}
-use Rattle.choice.proofs.Lowering.{front-small, lowering, some-type, type-there, position-there, lowered-from}
+use Rattle.choice.proofs.LowerFrom.{front-small, lowering, some-type, type-there, position-there, lowered-from}
 use borrow.Author.Needs.{needs}
 use Rattle.choice.proofs.first.lower_at.Statement.{statement}
 use Rattle.choice.proofs.first.lower_at.Tie as tie

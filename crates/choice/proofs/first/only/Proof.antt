@@ -1,6 +1,6 @@
 -- `choice::first::only` meets its contract: the marks of one type fit a byte. Assumes nothing.
 use borrow.Author.Needs.{needs}
-use Rattle.choice.proofs.Lowering.{one-type}
+use Rattle.choice.proofs.Blocked.{one-type}
 use Rattle.choice.proofs.first.only.Statement.{statement}
 use Rattle.choice.proofs.first.only.Tie as tie
 

@@ -1,6 +1,6 @@
 -- `choice::first::place_first` meets its contract: the types are lowered where that is asked for. Assumes nothing.
 use borrow.Author.Needs.{needs}
-use Rattle.choice.proofs.Lowering.{placed-first, as-placed-first}
+use Rattle.choice.proofs.LowerDown.{placed-first, as-placed-first}
 use Rattle.choice.proofs.first.place_first.Statement.{statement}
 use Rattle.choice.proofs.first.place_first.Tie as tie
 

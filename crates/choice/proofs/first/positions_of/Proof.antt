@@ -4,7 +4,7 @@ use mathlib.Core.Path.{_≡_, refl}
 use lib.ListN.{length, getD}
 use native.Mathlib.Omega.{arith}
 use Rattle.choice.proofs.Written.{Written, begin, write}
-use Rattle.choice.proofs.Lowering.{front-copied}
+use Rattle.choice.proofs.LowerFrom.{front-copied}
 use borrow.Author.Needs.{needs}
 use Rattle.choice.proofs.first.positions_of.Statement.{statement}
 use Rattle.choice.proofs.first.positions_of.Tie as tie

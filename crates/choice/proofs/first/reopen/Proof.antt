@@ -1,5 +1,5 @@
 -- `choice::first::reopen` meets its contract. Assumes nothing.
-use Rattle.choice.proofs.Lowering.{forgotten, as-exhausted}
+use Rattle.choice.proofs.LowerFrom.{forgotten, as-exhausted}
 use borrow.Author.Needs.{needs}
 use Rattle.choice.proofs.first.reopen.Statement.{statement}
 use Rattle.choice.proofs.first.reopen.Tie as tie
