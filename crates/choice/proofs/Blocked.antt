@@ -11,7 +11,7 @@ use borrow.Author.Tests.{eqb-true}
 use Rattle.round.specs.Lists.{bit, count, sumOf, all}
 use Rattle.round.proofs.Words.{all-at}
 use Rattle.choice.specs.Use.{holds, Placing}
-use Rattle.choice.specs.Search.{atType}
+use Rattle.choice.specs.Left.{atType}
 use Rattle.choice.proofs.Counting.{bit-same, bit-other, count-less, sumOf-zero, sumOf-ext, sumOf-le, sumOf-at}
 use Rattle.choice.proofs.Tight.{cond-less, cond-zero, cond-le}
 

@@ -14,16 +14,12 @@ pub count-more : (X : ℕ → Bool) (p n b : ℕ) → n ≡ count p X → bit (X
 count-more X p n b e h = rw add-one (omega arith)
 
 -- two tests that agree but at one number
-pub count-one : (n c : ℕ) (X Y : ℕ → Bool) → ((p : ℕ) → (p ≡ c → ⊥) → X p ≡ Y p) → count n X ≤ count n Y + bit (X c)
-count-one zero c X Y h = omega arith
-count-one (suc n) c X Y h = go (eqb n c) refl (count-one n c X Y h)
-  where
-    go : (b : Bool) → eqb n c ≡ b → count n X ≤ count n Y + bit (X c) → count (suc n) X ≤ count (suc n) Y + bit (X c)
-    go true e _ =
-        let at : n ≡ c = eqb-true n c e in
-        omega
-        (arith, ap bit (ap X at), count-ext n X Y (λ p l. h p (λ q. omega arith)))
-    go false e rest = omega (arith, ap bit (h n (eqb-false n c e)))
+pub count-one : (n c : ℕ) (X Y : ℕ → Bool) → c < n → ((p : ℕ) → (p ≡ c → ⊥) → X p ≡ Y p) → count n X + bit (Y c) ≡ count n Y + bit (X c)
+count-one zero c X Y l h = absurd (omega arith)
+count-one (suc n) c X Y l h =
+    below c n l
+    (λ less. omega (arith, count-one n c X Y less h, ap bit (h n (λ q. omega arith))))
+    (λ same. rw same (omega (arith, count-ext n X Y (λ p b. h p (λ q. omega arith)))))
 
 -- fewer numbers are tested
 pub count-within : (k n : ℕ) (X : ℕ → Bool) → k ≤ n → count k X ≤ count n X

@@ -3,16 +3,17 @@
 use Prim.Native.Nat.{ℕ, zero, suc, _+_, _≤_, _<_}
 use mathlib.Core.Path.{_≡_, refl, sym, ap, subst, _∙_}
 use mathlib.Core.Bool.{Bool, true, false}
-use mathlib.Core.List.{List}
+use mathlib.Core.List.{List, _++_}
 use native.Mathlib.Omega.{arith}
 use lib.Dec.{eqb, ltb}
-use lib.ListN.{length, getD, set, replicate, length-set, length-replicate, getD-replicate, List·getD-eq-default}
+use lib.ListN.{length, getD, set, take, drop, replicate, length-set, length-replicate, getD-replicate, List·getD-eq-default}
 use lib.Seq.{getD-set-other}
 use borrow.Author.Tests.{eq-eqb, eqb-true, ne-eqb, lt-ltb, le-ltb, ltb-true}
 use Rattle.round.specs.Lists.{count}
 use Rattle.choice.specs.Use.{holds, Placing}
 use Rattle.choice.specs.Step.{raises, takenForUse}
-use Rattle.choice.specs.Search.{atType, Moved, Stuck, Searched}
+use Rattle.choice.specs.Left.{atType, Left}
+use Rattle.choice.specs.Search.{Searching, Moved, Stuck, Searched}
 use Rattle.choice.specs.Taken.{Without, AllExhausted, Attempted, Took}
 use Rattle.choice.proofs.Counting.{test, lessOr, sameOr, bit-true, bit-false, count-le}
 use Rattle.choice.proofs.Counts.{count-more, count-within, count-rest}
@@ -20,11 +21,13 @@ use Rattle.choice.proofs.Tabulate.{getD-zeros}
 use Rattle.choice.proofs.Use.{placed, PlacingTo, placed-raises}
 use Rattle.choice.proofs.Tight.{placed-blocked}
 use Rattle.choice.proofs.Taking.{takenForUse-considered, takenBefore-placed}
+use Rattle.choice.proofs.FrontPlaces.{searching-front, attempted-all}
 
--- just those taken below p have a type; the exhausted types are full, and who is placed at one holds exhausted types only;
--- without more all types are exhausted
-pub record Down (reserved marks : List ℕ) (considered : ℕ → Bool) (placed exhausted : List ℕ) (more : Bool) (n p : ℕ) : Type 0 where
+-- just those taken below p have a type; left is what they leave of the positions; the exhausted types are full, and who is placed at one
+-- holds exhausted types only; without more all types are exhausted
+pub record Down (reserved marks : List ℕ) (considered : ℕ → Bool) (left placed exhausted : List ℕ) (more : Bool) (n p : ℕ) : Type 0 where
   pub placing : Placing reserved marks placed
+  pub positions : Left reserved left placed
   pub each : (q : ℕ) → q < p → takenForUse reserved marks considered q ≡ ltb 0 (getD placed q 0)
   pub rest : (q : ℕ) → p ≤ q → getD placed q 0 ≡ 0
   pub number : n ≡ count p (takenForUse reserved marks considered)
@@ -35,9 +38,10 @@ pub record Down (reserved marks : List ℕ) (considered : ℕ → Bool) (placed 
   pub over : more ≡ false → AllExhausted (length reserved) exhausted
 
 -- what a search says of the list that its visited types start from
-pub attempted-found : (reserved marks : List ℕ) {v e v′ b a : List ℕ} (c : ℕ) {r : Bool} → Searched reserved marks v v′ b a c r → v ≡ e → r ≡ true
-    → Attempted reserved marks e e b a c true
-attempted-found reserved marks {v} {e} {v′} {b} {a} c s same r = record {
+pub attempted-found : (reserved marks : List ℕ) {left′ v e v′ b a : List ℕ} (c : ℕ) {r : Bool} → Searched reserved left′ marks v v′ b a c r → v ≡ e → r ≡ true
+    → Attempted reserved left′ marks e e b a c true
+attempted-found reserved marks {left′} {v} {e} {v′} {b} {a} c s same r = record {
+  positions = s .positions;
   found = λ t. subst (λ (l : List ℕ). Moved reserved marks l b a c) same (s .found r);
   spared = λ t. refl;
   stuck = λ f. absurd (never f);
@@ -46,9 +50,10 @@ attempted-found reserved marks {v} {e} {v′} {b} {a} c s same r = record {
     never : true ≡ false → ⊥
     never f = let z : _≡_ {A = ℕ} 0 1 = cc in omega arith
 
-pub attempted-stuck : (reserved marks : List ℕ) {v e v′ e′ b a : List ℕ} (c : ℕ) {r : Bool} → Searched reserved marks v v′ b a c r → v ≡ e → e′ ≡ v′
-    → r ≡ false → Attempted reserved marks e e′ b a c false
-attempted-stuck reserved marks {v} {e} {v′} {e′} {b} {a} c s same copied r = record {
+pub attempted-stuck : (reserved marks : List ℕ) {left′ v e v′ e′ b a : List ℕ} (c : ℕ) {r : Bool} → Searched reserved left′ marks v v′ b a c r → v ≡ e → e′ ≡ v′
+    → r ≡ false → Attempted reserved left′ marks e e′ b a c false
+attempted-stuck reserved marks {left′} {v} {e} {v′} {e′} {b} {a} c s same copied r = record {
+  positions = s .positions;
   found = λ t. absurd (never t);
   spared = λ t. absurd (never t);
   stuck = λ f.
@@ -80,14 +85,15 @@ module _ (reserved marks : List ℕ) (X : ℕ → Bool) where
   abbrev H : ℕ → Bool
   H = takenForUse reserved marks X
 
-  pub top : (placed exhausted : List ℕ) (more : Bool) → placed ≡ replicate (length marks) 0 → Without reserved exhausted
-      → (more ≡ false → AllExhausted (length reserved) exhausted) → Down reserved marks X placed exhausted more 0 0
-  top placed exhausted more empty none over = record {
+  pub top : (left placed exhausted : List ℕ) (more : Bool) → placed ≡ replicate (length marks) 0 → Left reserved left placed → Without reserved exhausted
+      → (more ≡ false → AllExhausted (length reserved) exhausted) → Down reserved marks X left placed exhausted more 0 0
+  top left placed exhausted more empty positions none over = record {
     placing = record {
       each = ap length empty ∙ length-replicate (length marks) zero;
       held = λ i t l e. absurd (clash i t e);
       within = λ t l. omega (arith, count-rest 0 (length placed) (λ q. eqb (getD placed q 0) (suc t)) (λ q l. ne-eqb _ _ (clash q t)));
     };
+    positions = positions;
     each = λ q l. absurd (omega arith);
     rest = λ q l. no-type (length marks) placed q empty;
     number = refl;
@@ -100,36 +106,38 @@ module _ (reserved marks : List ℕ) (X : ℕ → Bool) where
       clash : (q t : ℕ) → getD placed q 0 ≡ suc t → ⊥
       clash q t e = omega (arith, no-type (length marks) placed q empty)
 
-  pub as-many : {placed₀ placed exhausted : List ℕ} {more : Bool} {n p : ℕ} → Down reserved marks X placed exhausted more n p → placed₀ ≡ replicate (length marks) 0
+  pub as-many : {placed₀ left placed exhausted : List ℕ} {more : Bool} {n p : ℕ} → Down reserved marks X left placed exhausted more n p → placed₀ ≡ replicate (length marks) 0
       → length placed ≡ length placed₀
   as-many d empty = omega (arith, d .placing .each, ap length empty, length-replicate (length marks) zero)
 
   -- the end of the list is reached
-  pub bottom : {placed exhausted : List ℕ} {more : Bool} {n p : ℕ} → Down reserved marks X placed exhausted more n p → p ≡ length marks → Took reserved marks placed X n
+  pub bottom : {left placed exhausted : List ℕ} {more : Bool} {n p : ℕ} → Down reserved marks X left placed exhausted more n p → p ≡ length marks → Took reserved left marks placed X n
   bottom d end = record {
     placing = d .placing;
+    positions = d .positions;
     each = λ q l. d .each q (omega arith);
     number = d .number ∙ ap (λ (k : ℕ). count k H) end;
   }
 
-  module _ {placed₀ exhausted : List ℕ} {more : Bool} {n p : ℕ} (inside : p < length marks) (d : Down reserved marks X placed₀ exhausted more n p) where
+  module _ {left placed₀ exhausted : List ℕ} {more : Bool} {n p : ℕ} (inside : p < length marks) (d : Down reserved marks X left placed₀ exhausted more n p) where
     unplaced : ltb 0 (getD placed₀ p 0) ≡ false
     unplaced = le-ltb 0 (getD placed₀ p 0) (omega (arith, d .rest p (omega arith)))
 
-    not-considered : X p ≡ false → Down reserved marks X placed₀ exhausted more n (p + 1)
+    not-considered : X p ≡ false → Down reserved marks X left placed₀ exhausted more n (p + 1)
     not-considered out = record {
       placing = d .placing;
-      each = λ q l. sameOr q p (λ s. rw s (left ∙ sym unplaced)) (λ o. d .each q (omega arith));
+      positions = d .positions;
+      each = λ q l. sameOr q p (λ s. rw s (not-taken ∙ sym unplaced)) (λ o. d .each q (omega arith));
       rest = λ q l. d .rest q (omega arith);
-      number = omega (arith, count-more H p n 0 (d .number) (bit-false (H p) left));
+      number = omega (arith, count-more H p n 0 (d .number) (bit-false (H p) not-taken));
       full = d .full;
       closed = d .closed;
       types = d .types;
       over = d .over;
     }
       where
-        left : H p ≡ false
-        left = unfold takenForUse in rw out
+        not-taken : H p ≡ false
+        not-taken = unfold takenForUse in rw out
 
     by-places : (l : List ℕ) (k : ℕ) → k ≤ length marks → Placing reserved marks l → PlacingTo reserved (λ q. getD l q 0) (λ q. getD marks q 0) k
     by-places l k h pl = record {
@@ -144,10 +152,11 @@ module _ (reserved marks : List ℕ) (X : ℕ → Bool) where
         takenForUse-considered reserved marks X p in-play
         ∙ ap (λ (A : List ℕ). raises reserved A (getD marks p 0)) (takenBefore-placed reserved marks X (λ q. getD l q 0) p each)
 
-    moved : (placed′ : List ℕ) → X p ≡ true → Moved reserved marks exhausted placed₀ placed′ p
-        → Down reserved marks X placed′ exhausted more (n + 1) (p + 1)
-    moved placed′ in-play m = record {
+    moved : (left′ placed′ : List ℕ) → X p ≡ true → Left reserved left′ placed′ → Moved reserved marks exhausted placed₀ placed′ p
+        → Down reserved marks X left′ placed′ exhausted more (n + 1) (p + 1)
+    moved left′ placed′ in-play positions m = record {
       placing = m .placing;
+      positions = positions;
       each = λ q l. sameOr q p (λ s. rw s (taken ∙ sym (lt-ltb 0 _ (m .reached)))) (λ o. same q (omega arith));
       rest = λ q l. m .apart q (λ s. omega arith) (d .rest q (omega arith));
       number = count-more H p n 1 (d .number) (bit-true (H p) taken);
@@ -180,15 +189,17 @@ module _ (reserved marks : List ℕ) (X : ℕ → Bool) where
             away : (q t : ℕ) → q ≡ p → getD placed₀ q 0 ≡ suc t → ⊥
             away q t s e = omega (arith, d .rest q (omega arith))
 
-    stuck : (placed′ exhausted′ : List ℕ) (more′ : Bool) → X p ≡ true → Stuck reserved marks exhausted exhausted′ placed₀ placed′ p → length exhausted′ ≡ 8
-        → (more′ ≡ false → AllExhausted (length reserved) exhausted′) → Down reserved marks X placed′ exhausted′ more′ n (p + 1)
-    stuck placed′ exhausted′ more′ in-play s types over =
-        subst (λ (l : List ℕ). Down reserved marks X l exhausted′ more′ n (p + 1)) (sym (s .same))
+    stuck : (left′ placed′ exhausted′ : List ℕ) (more′ : Bool) → X p ≡ true → Left reserved left′ placed′
+        → Stuck reserved marks exhausted exhausted′ placed₀ placed′ p → length exhausted′ ≡ 8
+        → (more′ ≡ false → AllExhausted (length reserved) exhausted′) → Down reserved marks X left′ placed′ exhausted′ more′ n (p + 1)
+    stuck left′ placed′ exhausted′ more′ in-play positions s types over =
+        subst (λ (l : List ℕ). Down reserved marks X left′ l exhausted′ more′ n (p + 1)) (sym (s .same))
         record {
           placing = d .placing;
-          each = λ q l. sameOr q p (λ e. rw e (left ∙ sym unplaced)) (λ o. d .each q (omega arith));
+          positions = rw (← s .same) positions;
+          each = λ q l. sameOr q p (λ e. rw e (not-taken ∙ sym unplaced)) (λ o. d .each q (omega arith));
           rest = λ q l. d .rest q (omega arith);
-          number = omega (arith, count-more H p n 0 (d .number) (bit-false (H p) left));
+          number = omega (arith, count-more H p n 0 (d .number) (bit-false (H p) not-taken));
           full = full;
           closed = closed;
           types = types;
@@ -203,8 +214,8 @@ module _ (reserved marks : List ℕ) (X : ℕ → Bool) where
         closed q t u v e l h =
             lessOr 0 (getD exhausted t 0) (λ k. s .more u (d .closed q t u k e l h)) (λ k. s .closed q t u v (omega arith) e l h)
 
-        left : H p ≡ false
-        left =
+        not-taken : H p ≡ false
+        not-taken =
             raised placed₀ (d .each) in-play
             ∙ placed-blocked reserved (λ q. getD placed₀ q 0) (λ q. getD marks q 0) p (getD marks p 0) (λ t. ltb 0 (getD exhausted′ t 0))
             (by-places placed₀ p (omega arith) (d .placing))
@@ -216,11 +227,11 @@ module _ (reserved marks : List ℕ) (X : ℕ → Bool) where
             away q t h e = omega (arith, d .rest q h)
 
     -- all types are exhausted
-    full-up : AllExhausted (length reserved) exhausted → Down reserved marks X placed₀ exhausted more n (p + 1)
+    full-up : AllExhausted (length reserved) exhausted → Down reserved marks X left placed₀ exhausted more n (p + 1)
     full-up all =
         test (X p)
         (λ in-play.
-        stuck placed₀ exhausted more in-play
+        stuck left placed₀ exhausted more in-play (d .positions)
         record {
           same = refl;
           more = λ t v. v;
@@ -231,21 +242,38 @@ module _ (reserved marks : List ℕ) (X : ℕ → Bool) where
         (d .types) (d .over))
         not-considered
 
+    -- a search for the place goes down to it only: nobody beyond has a type
+    beyond : (q : ℕ) → p + 1 ≤ q → getD placed₀ q 0 ≡ 0
+    beyond q l = d .rest q (omega arith)
+
+    pub searching : length reserved ≤ 8 → Searching reserved left (take (p + 1) marks) (take (p + 1) placed₀) exhausted p
+    searching few = searching-front (d .placing) (p + 1) (omega arith) beyond (d .positions) few (d .types) (omega arith)
+
+    among-all : {left′ part exhausted′ : List ℕ} {b : Bool} → Attempted reserved left′ (take (p + 1) marks) exhausted exhausted′ (take (p + 1) placed₀) part p b
+        → length part ≡ length (take (p + 1) placed₀) → Attempted reserved left′ marks exhausted exhausted′ placed₀ (part ++ drop (p + 1) placed₀) p b
+    among-all {part = part} a sized = attempted-all (d .placing) (p + 1) (omega arith) beyond part sized (omega arith) a
+
     -- what stands after the place, as the code leaves it: where all types are exhausted, ..
-    module _ {l e : List ℕ} {m : ℕ} {o : Bool} where
-      pub passed-full : more ≡ false → l ≡ placed₀ → e ≡ exhausted → o ≡ more → m ≡ n → Down reserved marks X l e o m (p + 1)
-      passed-full none el ee eo en = rw (el, ee, eo, en) (full-up (d .over none))
+    module _ {f l e : List ℕ} {m : ℕ} {o : Bool} where
+      pub passed-full : more ≡ false → f ≡ left → l ≡ placed₀ → e ≡ exhausted → o ≡ more → m ≡ n → Down reserved marks X f l e o m (p + 1)
+      passed-full none ef el ee eo en = rw (ef, el, ee, eo, en) (full-up (d .over none))
 
       module _ {r : Bool} (said : r ≡ X p) where
         -- .. where it is not considered, ..
-        pub passed : r ≡ false → l ≡ placed₀ → e ≡ exhausted → o ≡ more → m ≡ n → Down reserved marks X l e o m (p + 1)
-        passed out el ee eo en = rw (el, ee, eo, en) (not-considered (sym said ∙ out))
+        pub passed : r ≡ false → f ≡ left → l ≡ placed₀ → e ≡ exhausted → o ≡ more → m ≡ n → Down reserved marks X f l e o m (p + 1)
+        passed out ef el ee eo en = rw (ef, el, ee, eo, en) (not-considered (sym said ∙ out))
 
         -- .. where it is placed, and where the search for it is in vain
-        module _ {placed′ exhausted′ : List ℕ} {b : Bool} (a : Attempted reserved marks exhausted exhausted′ placed₀ placed′ p b) (in-play : r ≡ true) where
-          pub placed-one : b ≡ true → l ≡ placed′ → e ≡ exhausted′ → o ≡ more → m ≡ n + 1 → Down reserved marks X l e o m (p + 1)
-          placed-one got el ee eo en = rw (el, ee, a .spared got, eo, en) (moved placed′ (sym said ∙ in-play) (a .found got))
+        module _ {left′ part exhausted′ : List ℕ} {b : Bool} (in-play : r ≡ true)
+            (a : Attempted reserved left′ (take (p + 1) marks) exhausted exhausted′ (take (p + 1) placed₀) part p b)
+            (sized : length part ≡ length (take (p + 1) placed₀)) where
+          pub placed-one : b ≡ true → f ≡ left′ → l ≡ part ++ drop (p + 1) placed₀ → e ≡ exhausted′ → o ≡ more → m ≡ n + 1 → Down reserved marks X f l e o m (p + 1)
+          placed-one got ef el ee eo en =
+              let all = among-all a sized in
+              rw (ef, el, ee, a .spared got, eo, en) (moved left′ _ (sym said ∙ in-play) (all .positions) (all .found got))
 
-          pub passed-by : {more′ : Bool} → b ≡ false → length exhausted′ ≡ length exhausted → (more′ ≡ false → AllExhausted (length reserved) exhausted′) → l ≡ placed′ → e ≡ exhausted′ → o ≡ more′ → m ≡ n
-              → Down reserved marks X l e o m (p + 1)
-          passed-by {more′} none kept over el ee eo en = rw (el, ee, eo, en) (stuck placed′ exhausted′ more′ (sym said ∙ in-play) (a .stuck none) (kept ∙ d .types) over)
+          pub passed-by : {more′ : Bool} → b ≡ false → length exhausted′ ≡ length exhausted → (more′ ≡ false → AllExhausted (length reserved) exhausted′)
+              → f ≡ left′ → l ≡ part ++ drop (p + 1) placed₀ → e ≡ exhausted′ → o ≡ more′ → m ≡ n → Down reserved marks X f l e o m (p + 1)
+          passed-by {more′} none kept over ef el ee eo en =
+              let all = among-all a sized in
+              rw (ef, el, ee, eo, en) (stuck left′ _ exhausted′ more′ (sym said ∙ in-play) (all .positions) (all .stuck none) (kept ∙ d .types) over)

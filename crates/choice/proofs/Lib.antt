@@ -18,8 +18,10 @@ pub mod Chosen
 pub mod Agreement
 pub mod Accounts
 pub mod TypesFirst
+pub mod PositionsLeft
 pub mod Visits
 pub mod Written
+pub mod FrontPlaces
 pub mod Down
 pub mod Blocked
 pub mod LowerFront

@@ -12,12 +12,13 @@ use lib.Seq.{set-getD, getD-drop, drop-drop, take-at, ext-getD, length-take-le, 
 use borrow.Author.Tests.{lt-ltb, ltb-true}
 use Rattle.round.specs.Lists.{count}
 use Rattle.choice.specs.Use.{oneLess, Placing}
+use Rattle.choice.specs.Left.{Left}
 use Rattle.choice.specs.Lowered.{SameTyped, Sealed, Lowered, LoweringFrom, LoweredFrom, PlacedFirst}
 use Rattle.choice.proofs.Counting.{clash, lessOr, sameOr, bit-same, bit-other, count-ext}
 use Rattle.choice.proofs.Tabulate.{getD-zeros}
 use Rattle.choice.proofs.Use.{oneLess-length, oneLess-same, oneLess-other, oneLess-le}
 use Rattle.choice.proofs.FirstPlacing.{types-first}
-use Rattle.choice.proofs.LowerFrom.{from-at, from-front, from-count, positions-from, sealed-rest, front-position}
+use Rattle.choice.proofs.LowerFrom.{from-at, from-front, from-count, positions-from, left-from, sealed-rest, front-position}
 
 -- the front of a list, written anew
 pub front-written : {whole : List ℕ} (n : ℕ) (l part : List ℕ) → whole ≡ part ++ drop n l → length part ≡ length (take n l) → n ≤ length l
@@ -25,10 +26,11 @@ pub front-written : {whole : List ℕ} (n : ℕ) (l part : List ℕ) → whole �
 front-written n l part e sized within =
     rw e (take-at part (drop n l) n (sized ∙ length-take-le n l within), length-front l part n sized)
 
--- where the way down stands at place p: those above have their smallest types; room is what they leave of the positions, and what is
--- exhausted is so for the places from p on, whose marks are their own
-pub record LoweredTo (reserved marks before room held placed exhausted : List ℕ) (p : ℕ) : Type 0 where
+-- where the way down stands at place p: those above have their smallest types; room is what they leave of the positions, left is what all
+-- leave, and what is exhausted is so for the places from p on, whose marks are their own
+pub record LoweredTo (reserved marks before room left held placed exhausted : List ℕ) (p : ℕ) : Type 0 where
   pub placing : Placing reserved marks placed
+  pub positions : Left reserved left placed
   pub same : SameTyped placed before
   pub as-many : length room ≡ length reserved
   pub counted : (t : ℕ) → t < length reserved → getD room t 0 + count p (λ q. eqb (getD placed q 0) (suc t)) ≡ getD reserved t 0
@@ -42,9 +44,11 @@ pub record LoweredTo (reserved marks before room held placed exhausted : List �
 -- how the way down begins, goes on and ends
 module _ (reserved marks before : List ℕ) where
   -- the first place is reached
-  pub unlowered : {room held : List ℕ} → Placing reserved marks before → room ≡ reserved → held ≡ marks → LoweredTo reserved marks before room held before (replicate 8 0) 0
-  unlowered placing whole copied = rw (whole, copied) record {
+  pub unlowered : {room left held : List ℕ} → Placing reserved marks before → Left reserved left before → room ≡ reserved → held ≡ marks
+      → LoweredTo reserved marks before room left held before (replicate 8 0) 0
+  unlowered placing positions whole copied = rw (whole, copied) record {
     placing = placing;
+    positions = positions;
     same = λ q. refl;
     as-many = refl;
     counted = λ t l. omega arith;
@@ -59,7 +63,7 @@ module _ (reserved marks before : List ℕ) where
   }
 
   -- all places are passed
-  pub lowered-all : {room held placed exhausted : List ℕ} {p : ℕ} → LoweredTo reserved marks before room held placed exhausted p → p ≡ length marks
+  pub lowered-all : {room left held placed exhausted : List ℕ} {p : ℕ} → LoweredTo reserved marks before room left held placed exhausted p → p ≡ length marks
       → PlacedFirst true reserved marks before placed
   lowered-all {placed = placed} {p = p} k end = record {
     same = k .same;
@@ -72,18 +76,19 @@ module _ (reserved marks before : List ℕ) where
     };
   }
 
-  module _ {room held placed exhausted : List ℕ} {p : ℕ} (k : LoweredTo reserved marks before room held placed exhausted p) (inside : p < length marks) where
+  module _ {room left held placed exhausted : List ℕ} {p : ℕ} (k : LoweredTo reserved marks before room left held placed exhausted p) (inside : p < length marks) where
     own : drop p held ≡ drop p marks
     own =
         ext-getD 0 (drop p held) (drop p marks) (omega (arith, length-drop p held, length-drop p marks, k .each))
         (λ q l. getD-drop p held q 0 ∙ k .rest (p + q) (omega arith) ∙ sym (getD-drop p marks q 0))
 
     -- where place p has a type, it may get a smaller one
-    pub lowering-from : length reserved ≤ 8 → getD placed p 0 ≢ 0 → LoweringFrom room held placed exhausted p
+    pub lowering-from : length reserved ≤ 8 → getD placed p 0 ≢ 0 → LoweringFrom room left held placed exhausted p
     lowering-from few some = record {
       few = omega (arith, k .as-many);
       each = k .placing .each ∙ sym (k .each);
       placing = rw own (positions-from marks placed p (k .as-many) (omega arith) (k .placing) (k .counted));
+      positions = left-from placed p (k .as-many) (omega (arith, k .placing .each)) (k .counted) (k .positions);
       within = omega (arith, k .each);
       some = omega arith;
       types = k .types;
@@ -91,9 +96,11 @@ module _ (reserved marks before : List ℕ) where
     }
 
     -- place p is passed where it has no type ..
-    pub lowered-none : {r h l e : List ℕ} → getD placed p 0 ≡ 0 → r ≡ room → h ≡ held → l ≡ placed → e ≡ exhausted → LoweredTo reserved marks before r h l e (p + 1)
-    lowered-none untyped er eh el ee = rw (er, eh, el, ee) record {
+    pub lowered-none : {r f h l e : List ℕ} → getD placed p 0 ≡ 0 → r ≡ room → f ≡ left → h ≡ held → l ≡ placed → e ≡ exhausted
+        → LoweredTo reserved marks before r f h l e (p + 1)
+    lowered-none untyped er ef eh el ee = rw (er, ef, eh, el, ee) record {
       placing = k .placing;
+      positions = k .positions;
       same = k .same;
       as-many = k .as-many;
       counted = λ t l. rw add-one (omega (arith, k .counted t l, bit-other (getD placed p 0) (suc t) (λ e. omega arith)));
@@ -111,8 +118,8 @@ module _ (reserved marks before : List ℕ) where
             (sym (ap (λ (x : ℕ). set (drop p placed) 0 x) (sym (from-front placed p ∙ untyped)) ∙ set-getD (drop p placed) 0 0)) (k .sealed)
 
     -- .. and where it has got the smallest
-    module _ {room′ held′ after exhausted′ : List ℕ} (w : LoweredFrom room room′ held held′ placed after exhausted′ p) (some : getD placed p 0 ≢ 0) where
-      of-own : Lowered room (drop p marks) (drop p held′) (drop p placed) (drop p after) exhausted′
+    module _ {room′ left′ held′ after exhausted′ : List ℕ} (w : LoweredFrom room room′ left′ held held′ placed after exhausted′ p) (some : getD placed p 0 ≢ 0) where
+      of-own : Lowered room left′ (drop p marks) (drop p held′) (drop p placed) (drop p after) exhausted′
       of-own = rw (← own) (w .lowered)
 
       new-each : length after ≡ length marks
@@ -131,6 +138,13 @@ module _ (reserved marks before : List ℕ) where
             (omega (arith, k .as-many), rw (← from-at marks p q m) has));
         within = λ t l.
             omega (arith, of-own .placing .within t (omega (arith, k .as-many)), k .counted t l, count-above t, from-count after p t (omega (arith, new-each)));
+      }
+
+      new-positions : Left reserved left′ after
+      new-positions = record {
+        each = omega (arith, of-own .positions .each, k .as-many);
+        less = λ t l.
+            omega (arith, of-own .positions .less t (omega (arith, k .as-many)), k .counted t l, count-above t, from-count after p t (omega (arith, new-each)));
       }
 
       new-same : SameTyped after before
@@ -182,10 +196,11 @@ module _ (reserved marks before : List ℕ) where
           (λ other.
           omega (arith, oneLess-other room u t other, k .counted t l, count-above t, bit-other (getD after p 0) (suc t) (λ e. other (omega arith))))
 
-      pub lowered-one : {r h l e : List ℕ} → length held′ ≡ length held → r ≡ room′ → h ≡ held′ → l ≡ after → e ≡ exhausted′ → length exhausted′ ≡ length exhausted
-          → LoweredTo reserved marks before r h l e (p + 1)
-      lowered-one sized er eh el ee kept = rw (er, eh, el, ee, w .less) record {
+      pub lowered-one : {r f h l e : List ℕ} → length held′ ≡ length held → r ≡ room′ → f ≡ left′ → h ≡ held′ → l ≡ after → e ≡ exhausted′
+          → length exhausted′ ≡ length exhausted → LoweredTo reserved marks before r f h l e (p + 1)
+      lowered-one sized er ef eh el ee kept = rw (er, ef, eh, el, ee, w .less) record {
         placing = new-placing;
+        positions = new-positions;
         same = new-same;
         as-many = oneLess-length room (getD after p 0 - 1) ∙ k .as-many;
         counted = λ t l. rw add-one (new-counted (getD after p 0 - 1) t (omega (arith, typed)) l);

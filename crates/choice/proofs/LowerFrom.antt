@@ -10,7 +10,7 @@ use lib.Seq.{getD-set-same, getD-set-other, getD-take, getD-drop, drop-at, take-
 use borrow.Author.Tests.{eqb-true, eq-eqb}
 use Rattle.round.specs.Lists.{count}
 use Rattle.choice.specs.Use.{oneLess, Placing}
-use Rattle.choice.specs.Search.{atType}
+use Rattle.choice.specs.Left.{atType, Left}
 use Rattle.choice.specs.Lowered.{Sealed, Reopened, Lowering, Lowered, LoweringFrom, LoweredFrom}
 use Rattle.choice.proofs.Counting.{lessOr, bit-same, bit-other, count-first, count-ext, count-le}
 use Rattle.choice.proofs.Counts.{count-within, count-from}
@@ -79,6 +79,14 @@ positions-from {reserved} {room} marks l p sizes inside h counted = record {
       omega (arith, h .within t low, counted t low, from-count l p t (omega (arith, h .each)));
 }
 
+-- what all leave of the positions is what the places from p on leave of these
+pub left-from : {reserved room left : List ℕ} (l : List ℕ) (p : ℕ) → length room ≡ length reserved → p ≤ length l
+    → ((t : ℕ) → t < length reserved → getD room t 0 + count p (λ q. eqb (getD l q 0) (suc t)) ≡ getD reserved t 0) → Left reserved left l → Left room left (drop p l)
+left-from l p sizes inside counted h = record {
+  each = omega (arith, h .each);
+  less = λ t b. omega (arith, h .less t (omega arith), counted t (omega arith), from-count l p t inside);
+}
+
 -- without the front place, those at a type are those from place 1 on
 front-off : (l : List ℕ) (t : ℕ) → atType (set l 0 0) t ≡ atType (drop 1 l) t
 front-off [] t = refl
@@ -134,7 +142,7 @@ front-position {l = l} h inside t e =
     )
 
 -- how place p gets the smallest type, by what the places from p on have
-module _ {room marks placed exhausted : List ℕ} {p : ℕ} (s : LoweringFrom room marks placed exhausted p) where
+module _ {room left marks placed exhausted : List ℕ} {p : ℕ} (s : LoweringFrom room left marks placed exhausted p) where
   fits : p < length placed
   fits = omega (arith, s .each, s .within)
 
@@ -148,19 +156,20 @@ module _ {room marks placed exhausted : List ℕ} {p : ℕ} (s : LoweringFrom ro
       )
 
   pub lowering : {exhausted′ : List ℕ} {u : ℕ} → Reopened exhausted exhausted′ u → getD placed p 0 ≡ suc u → length exhausted′ ≡ length exhausted
-      → Lowering room (take (length marks - p) (drop p marks)) (take (length placed - p) (drop p placed)) exhausted′
+      → Lowering room left (take (length marks - p) (drop p marks)) (take (length placed - p) (drop p placed)) exhausted′
   lowering reopened at kept = rw (from-whole marks p, from-whole placed p) record {
     few = s .few;
     placing = s .placing;
+    positions = s .positions;
     within = omega (arith, s .within, length-drop p marks);
     some = rw (from-front placed p) (s .some);
     types = kept ∙ s .types;
     sealed = sealed-without (s .sealed) reopened (from-front placed p ∙ at) (omega (arith, fits, length-drop p placed));
   }
 
-  module _ {part after exhausted′ : List ℕ}
-      (parts : Lowered room (take (length marks - p) (drop p marks)) part (take (length placed - p) (drop p placed)) after exhausted′) where
-    from-there : Lowered room (drop p marks) part (drop p placed) after exhausted′
+  module _ {left′ part after exhausted′ : List ℕ}
+      (parts : Lowered room left′ (take (length marks - p) (drop p marks)) part (take (length placed - p) (drop p placed)) after exhausted′) where
+    from-there : Lowered room left′ (drop p marks) part (drop p placed) after exhausted′
     from-there = rw (← from-whole marks p, ← from-whole placed p) parts
 
     front : getD (anew p placed after) p 0 ≡ getD after 0 0
@@ -179,7 +188,7 @@ module _ {room marks placed exhausted : List ℕ} {p : ℕ} (s : LoweringFrom ro
         front-position (from-there .placing) (omega (arith, s .within, length-drop p marks)) (x - 1) (omega (arith, some-type, front))
 
     pub lowered-from : (x : ℕ) → x ≡ getD (anew p placed after) p 0
-        → LoweredFrom room (set room (x - 1) (getD room (x - 1) 0 - 1)) marks (anew p marks part) placed (anew p placed after) exhausted′ p
+        → LoweredFrom room (set room (x - 1) (getD room (x - 1) 0 - 1)) left′ marks (anew p marks part) placed (anew p placed after) exhausted′ p
     unfolding oneLess
     lowered-from x e = record {
       above = anew-above placed after p (omega (arith, fits));

@@ -138,9 +138,9 @@ module _ (first : Bool) (reserved marks placed : List ℕ) (X : ℕ → Bool) (p
       merit = unfold takenByMerit in left-same (remaining reserved marks X) (count n H) positions n .1
 
 -- the types of those taken for use, the first ones where they are asked for
-pub took-typed : {first : Bool} {reserved marks placed types : List ℕ} {X : ℕ → Bool} {took count : ℕ} → Took reserved marks placed X took → PlacedFirst first reserved marks placed types → count ≡ took
+pub took-typed : {first : Bool} {reserved left marks placed types : List ℕ} {X : ℕ → Bool} {took count : ℕ} → Took reserved left marks placed X took → PlacedFirst first reserved marks placed types → count ≡ took
     → TookTyped first reserved marks types X count
-took-typed {reserved = reserved} {marks} k f e = record {
+took-typed {reserved = reserved} {marks = marks} k f e = record {
   each = λ q l. k .each q l ∙ sym (f .same q);
   number = e ∙ k .number;
   types = λ t. f .types t ∙ types-cong reserved marks _ _ (λ q l. sym (k .each q l));

@@ -1,5 +1,5 @@
 -- The search for a place, one type and one holder after the other: what is known where it stands, and how it goes on.
-use Prim.Native.Nat.{ℕ, suc, _+_, _≤_, _<_}
+use Prim.Native.Nat.{ℕ, suc, _+_, _-_, _≤_, _<_}
 use mathlib.Core.Path.{_≡_, refl, sym, ap, subst, _∙_}
 use mathlib.Core.Bool.{Bool, true, false, _&&_}
 use mathlib.Core.List.{List}
@@ -9,13 +9,14 @@ use lib.ListN.{length, getD, set, length-set, List·getD-eq-default}
 use lib.Seq.{getD-set-same, getD-set-other}
 use borrow.Author.Tests.{eqb-true, eqb-false, eq-eqb, ne-eqb}
 use Rattle.round.specs.Lists.{bit, count}
-use Rattle.round.proofs.Words.{and-fst, and-snd}
+use Rattle.round.proofs.Words.{and-fst, and-snd, and-no}
 use Rattle.choice.specs.declared.placing.Found.{Found}
 use Rattle.choice.specs.declared.placing.Found.the-variants.{At, Nothing}
-use Rattle.choice.specs.Use.{holds, Placing}
-use Rattle.choice.specs.Search.{atType, Moved, Stuck}
+use Rattle.choice.specs.Use.{holds, oneLess, Placing}
+use Rattle.choice.specs.Left.{atType, Left, givenBack}
+use Rattle.choice.specs.Search.{NothingToTry, Sought, Moved, Stuck, Searched}
 use Rattle.choice.proofs.Counting.{lessOr, sameOr, bit-true, bit-false, count-less}
-use Rattle.choice.proofs.Counts.{count-one}
+use Rattle.choice.proofs.PositionsLeft.{at-set, moved-to}
 
 -- the types visited since: each is full, and who is placed at one holds visited types only
 pub record Grown (reserved marks placed visited visited′ : List ℕ) : Type 0 where
@@ -29,10 +30,10 @@ pub record Tried (reserved marks placed visited visited′ : List ℕ) (c t : �
   pub grown : Grown reserved marks placed visited visited′
   pub own : (u : ℕ) → u < t → holds (getD marks c 0) u ≡ true → 0 < getD visited′ u 0
 
--- those placed at type t below place h hold visited types only
+-- those placed at type t from place h on hold visited types only
 pub record Asked (reserved marks placed visited visited′ : List ℕ) (t h : ℕ) : Type 0 where
   pub grown : Grown reserved marks placed visited visited′
-  pub asked : (p w : ℕ) → p < h → getD placed p 0 ≡ suc t → w < length reserved → holds (getD marks p 0) w ≡ true
+  pub asked : (p w : ℕ) → h ≤ p → getD placed p 0 ≡ suc t → w < length reserved → holds (getD marks p 0) w ≡ true
       → 0 < getD visited′ w 0
 
 -- type t, which c holds, has a position left after some were moved
@@ -57,6 +58,10 @@ pub ended-by : (reserved marks : List ℕ) {v v₁ w w₁ b b₁ a a₁ : List �
     → f ≡ f₁ → SearchEnded reserved marks v₁ w₁ b₁ a₁ c f₁ → SearchEnded reserved marks v w b a c f
 ended-by reserved marks c ev ew eb ea ef x = rw (ev, ew, eb, ea, ef) x
 
+-- .. and what is left
+pub left-by : {reserved l l₁ p p₁ : List ℕ} → l ≡ l₁ → p ≡ p₁ → Left reserved l₁ p₁ → Left reserved l p
+left-by el ep x = rw (el, ep) x
+
 -- how many types are not visited
 abbrev pub unvisited : List ℕ → ℕ
 unvisited visited = count (length visited) (λ t. eqb (getD visited t 0) 0)
@@ -65,6 +70,50 @@ unvisited visited = count (length visited) (λ t. eqb (getD visited t 0) 0)
 tried-test : (m t v : ℕ) {r : Bool} → r ≡ (holds m t && eqb v 0) → r ≡ true → (holds m t ≡ true) × (v ≡ 0)
 tried-test m t v e y =
     (and-fst (holds m t) (eqb v 0) (sym e ∙ y), eqb-true v 0 (and-snd (holds m t) (eqb v 0) (sym e ∙ y)))
+
+-- one more type is not among the marks, or visited
+pub nothing-more : (m : ℕ) (visited : List ℕ) {t : ℕ} {r : Bool} → ((u : ℕ) → u < t → holds m u ≡ true → 0 < getD visited u 0)
+    → r ≡ (holds m t && eqb (getD visited t 0) 0) → r ≡ false → (u : ℕ) → u < t + 1 → holds m u ≡ true → 0 < getD visited u 0
+nothing-more m visited {t} below test none u l held =
+    sameOr u t (λ e. rw e (seen (and-no (holds m t) (eqb (getD visited t 0) 0) (sym test ∙ none) (rw e at held)))) (λ n. below u (omega arith) held)
+  where
+    seen : eqb (getD visited t 0) 0 ≡ false → 0 < getD visited t 0
+    seen e = lessOr 0 (getD visited t 0) (λ l. l) (λ z. absurd (eqb-false (getD visited t 0) 0 e (omega arith)))
+
+-- for those from place h up to the end who are placed at type t, there is nothing to try
+pub record PassedOver (marks placed visited : List ℕ) (t end h : ℕ) : Type 0 where
+  pub over : (p : ℕ) → h ≤ p → p < end → getD placed p 0 ≡ suc t → NothingToTry (getD marks p 0) visited
+
+module _ (marks placed visited : List ℕ) (t end : ℕ) where
+  pub none-passed : {h : ℕ} → end ≤ h → PassedOver marks placed visited t end h
+  none-passed all = record { over = λ p l b. absurd (omega arith) }
+
+  -- the one above place h is at another type, or has nothing to try
+  pub passed-other : {h g i byte : ℕ} → PassedOver marks placed visited t end h → suc g ≡ h → i ≡ g → byte ≡ getD placed g 0 → (byte ≡ t + 1 → ⊥)
+      → PassedOver marks placed visited t end i
+  passed-other {h} {g} k next at reads other = rw at record {
+    over = λ p l b e. sameOr p g (λ q. absurd (other (omega (arith, rw q at e)))) (λ q. k .over p (omega arith) b e);
+  }
+
+  pub passed-spent : {h g i : ℕ} → PassedOver marks placed visited t end h → suc g ≡ h → i ≡ g → NothingToTry (getD marks g 0) visited
+      → PassedOver marks placed visited t end i
+  passed-spent {h} {g} k next at spent = rw at record { over = λ p l b e. sameOr p g (λ q. rw q spent) (λ q. k .over p (omega arith) b e) }
+
+  -- it is placed at type t and may have something to try
+  pub sought : {h g r byte : ℕ} → PassedOver marks placed visited t end h → suc g ≡ h → h ≤ end → byte ≡ getD placed g 0 → byte ≡ t + 1 → r ≡ suc g
+      → Sought marks placed visited t end r
+  sought {h} {g} k next inside reads at e =
+      let at-type : getD placed g 0 ≡ suc t = omega arith in
+      let one-less : suc g - 1 ≡ g = omega arith in
+      rw e record {
+        within = omega arith;
+        holder = λ l. ap (λ (i : ℕ). getD placed i 0) one-less ∙ at-type;
+        passed = λ p l b. k .over p (omega arith) b;
+      }
+
+  -- there is nobody
+  pub sought-none : {h : ℕ} → PassedOver marks placed visited t end h → h ≡ 0 → Sought marks placed visited t end 0
+  sought-none k e = record { within = omega arith; holder = λ l. absurd (omega arith); passed = λ p l b. k .over p (omega arith) b }
 
 module _ (reserved marks placed : List ℕ) where
   -- more types are visited, and then more again
@@ -103,30 +152,33 @@ module _ (reserved marks placed : List ℕ) where
     own = λ u l held. k .own u (omega arith) held;
   }
 
-  pub ask : (visited : List ℕ) (t : ℕ) → Asked reserved marks placed visited visited t 0
-  ask visited t = record {
+  pub ask : (visited : List ℕ) (t : ℕ) {end : ℕ} → length placed ≤ end → Asked reserved marks placed visited visited t end
+  ask visited t {end} all = record {
     grown = record { more = λ u l. l; full = λ u l z. omega arith; closed = λ p u w l z. absurd (lost u l z) };
-    asked = λ p w l. absurd (omega arith);
+    asked = λ p w l e. absurd (nobody p l e);
   }
     where
       lost : (u : ℕ) → 0 < getD visited u 0 → getD visited u 0 ≡ 0 → ⊥
       lost u l z = omega arith
 
-  -- the holder at place h is at another type
-  pub pass : {visited₁ visited v before : List ℕ} {t h byte : ℕ} → Asked reserved marks placed visited₁ visited t h → before ≡ placed
-      → byte ≡ getD before h 0 → (byte ≡ t + 1 → ⊥) → v ≡ visited → Asked reserved marks placed visited₁ v t (h + 1)
-  pass {t = t} {h = h} a was reads other ev = rw ev record {
+      nobody : (p : ℕ) → end ≤ p → getD placed p 0 ≡ suc t → ⊥
+      nobody p l e = let none : getD placed p 0 ≡ 0 = List·getD-eq-default placed 0 (omega arith) in omega arith
+
+  -- the places from r up to the end are passed over
+  pub pass : {visited₁ visited before : List ℕ} {t end r : ℕ} → Asked reserved marks placed visited₁ visited t end → before ≡ placed → length reserved ≤ 8
+      → Sought marks before visited t end r → Asked reserved marks placed visited₁ visited t r
+  pass {visited = visited} {t = t} {end} {r} a was few passed-over = record {
     grown = a .grown;
-    asked = λ p w l e. sameOr p h (λ q. absurd (there (rw q at e))) (λ q. a .asked p w (omega arith) e);
+    asked = λ p w l e b held. lessOr p end (λ less. s .passed p l less e w (omega arith) held) (λ h. a .asked p w h e b held);
   }
     where
-      there : getD placed h 0 ≡ suc t → ⊥
-      there e = other (omega (arith, ap (λ (l : List ℕ). getD l h 0) was))
+      s : Sought marks placed visited t end r
+      s = subst (λ (l : List ℕ). Sought marks l visited t end r) was passed-over
 
   -- the search for the holder at place h fails
-  pub fail : {visited₁ visited visited′ v before after : List ℕ} {t h : ℕ} → Asked reserved marks placed visited₁ visited t h → before ≡ placed
-      → Stuck reserved marks visited visited′ before after h → v ≡ visited′ → Asked reserved marks placed visited₁ v t (h + 1)
-  fail {visited₁} {visited} {visited′} {after = after} {h = h} a was stuck ev = rw ev record {
+  pub fail : {visited₁ visited visited′ v before after : List ℕ} {t r h : ℕ} → Asked reserved marks placed visited₁ visited t r → r ≤ suc h → before ≡ placed
+      → Stuck reserved marks visited visited′ before after h → v ≡ visited′ → Asked reserved marks placed visited₁ v t h
+  fail {visited₁} {visited} {visited′} {after = after} {h = h} a next was stuck ev = rw ev record {
     grown = join visited₁ visited visited′ (a .grown) record { more = s .more; full = s .full; closed = s .closed };
     asked = λ p w l e b held.
         sameOr p h (λ q. s .own w b (rw q at held)) (λ q. s .more w (a .asked p w (omega arith) e b held));
@@ -192,9 +244,9 @@ module _ (reserved marks placed : List ℕ) where
               lost v = omega (arith, eqb-true (getD visited′ u 0) 0 e)
 
       -- the holder at place h has moved
-      pub cleared : {before after : List ℕ} {byte : ℕ} → before ≡ placed → h < length placed → Placing reserved marks placed
-          → byte ≡ getD before h 0 → byte ≡ t + 1 → Moved reserved marks visited′ before after h → Cleared reserved marks visited₀ placed after c t
-      cleared {before} {after} was inside placing reads at-type moved = record {
+      pub cleared : {before after : List ℕ} {g : ℕ} → before ≡ placed → g < length placed → Placing reserved marks placed
+          → getD before g 0 ≡ suc t → Moved reserved marks visited′ before after g → Cleared reserved marks visited₀ placed after c t
+      cleared {before} {after} {g} was inside placing at-type moved = record {
         fresh = unseen;
         below = below;
         held = held;
@@ -206,14 +258,14 @@ module _ (reserved marks placed : List ℕ) where
         comes = λ p u v e. m .comes p u (since u (k .grown .more u v)) e .0;
       }
         where
-          at : getD placed h 0 ≡ suc t
-          at = omega (arith, ap (λ (l : List ℕ). getD l h 0) was)
+          at : getD placed g 0 ≡ suc t
+          at = omega (arith, ap (λ (l : List ℕ). getD l g 0) was)
 
-          place : {p : ℕ} → p ≡ h → getD placed p 0 ≡ getD placed h 0
+          place : {p : ℕ} → p ≡ g → getD placed p 0 ≡ getD placed g 0
           place q = ap (λ (i : ℕ). getD placed i 0) q
 
-          m : Moved reserved marks visited′ placed after h
-          m = subst (λ (l : List ℕ). Moved reserved marks visited′ l after h) was moved
+          m : Moved reserved marks visited′ placed after g
+          m = subst (λ (l : List ℕ). Moved reserved marks visited′ l after g) was moved
 
           sizes : length after ≡ length placed
           sizes = m .placing .each ∙ sym (placing .each)
@@ -223,29 +275,29 @@ module _ (reserved marks placed : List ℕ) where
               rw sizes
               (omega (
                 arith,
-                count-less (length placed) h (λ p. eqb (getD after p 0) (suc t)) (λ p. eqb (getD placed p 0) (suc t)) inside
+                count-less (length placed) g (λ p. eqb (getD after p 0) (suc t)) (λ p. eqb (getD placed p 0) (suc t)) inside
                     (λ p l e. eq-eqb _ _ (m .comes p t here (eqb-true _ _ e) .0))
-                    (ne-eqb _ _ (λ e. m .comes h t here e .1 refl))
+                    (ne-eqb _ _ (λ e. m .comes g t here e .1 refl))
                     (eq-eqb _ _ at),
                 placing .within t below,
               ))
 
-          other : (p u : ℕ) → p ≡ h → 0 < getD visited₀ u 0 → getD placed p 0 ≡ suc u → ⊥
+          other : (p u : ℕ) → p ≡ g → 0 < getD visited₀ u 0 → getD placed p 0 ≡ suc u → ⊥
           other p u q v e =
               let type : t ≡ u = omega (arith, at, place q) in
               omega (arith, ap (λ (i : ℕ). getD visited₀ i 0) type, unseen)
 
       -- it is full, and every holder was asked
-      pub finish : {l l₁ v : List ℕ} {n : ℕ} → n ≡ atType placed t → getD reserved t 0 ≤ n → length placed ≤ h → l ≡ l₁ → l₁ ≡ placed → v ≡ visited′
+      pub finish : {left l l₁ v : List ℕ} → Left reserved left placed → getD left t 0 ≤ 0 → h ≤ 0 → l ≡ l₁ → l₁ ≡ placed → v ≡ visited′
           → Tried reserved marks l visited₀ v c (t + 1)
-      finish counts none all el el₁ ev = rw (el, el₁, ev) record {
+      finish {left} positions none all el el₁ ev = rw (el, el₁, ev) record {
         grown = record {
           more = λ u v. since u (k .grown .more u v);
           full = λ u v z.
-              sameOr u t (λ q. rw (q, ← counts) none)
+              sameOr u t (λ q. rw q (omega (arith, positions .less t below)))
               (λ n. lessOr 0 (getD visited u 0) (λ l. k .grown .full u l z) (λ l. a .grown .full u v (not-marked u n (omega arith))));
           closed = λ p u w v z e l o.
-              sameOr u t (λ q. a .asked p w (inside p u e) (rw q at e) l o)
+              sameOr u t (λ q. a .asked p w (omega arith) (rw q at e) l o)
               (λ n.
               lessOr 0 (getD visited u 0) (λ b. since w (k .grown .closed p u w b z e l o))
               (λ b. a .grown .closed p u w v (not-marked u n (omega arith)) e l o));
@@ -255,11 +307,6 @@ module _ (reserved marks placed : List ℕ) where
         where
           not-marked : (u : ℕ) → (u ≡ t → ⊥) → getD visited u 0 ≡ 0 → getD (set visited t 1) u 0 ≡ 0
           not-marked u n z = rw (getD-set-other visited t u 1 0 n) z
-
-          inside : (p u : ℕ) → getD placed p 0 ≡ suc u → p < h
-          inside p u e =
-              lessOr p (length placed) (λ l. omega arith)
-              (λ l. let z : getD placed p 0 ≡ 0 = List·getD-eq-default placed 0 l in omega arith)
 
 -- c takes the position
 pub settle : (reserved marks visited before after : List ℕ) (c t : ℕ) → c < length marks
@@ -302,7 +349,25 @@ settle reserved marks visited before after c t inside k = record {
         (arith, grown, k .placing .within u l, bit-false _ (ne-eqb (getD (set after c (suc t)) c 0) (suc u) (λ e. n (omega (arith, at))))))
       where
         grown : atType (set after c (suc t)) u ≤ atType after u + bit (eqb (getD (set after c (suc t)) c 0) (suc u))
-        grown =
-            rw (length-set after c (suc t))
-            (count-one (length after) c (λ p. eqb (getD (set after c (suc t)) p 0) (suc u)) (λ p. eqb (getD after p 0) (suc u))
-            (λ p n. ap (λ (x : ℕ). eqb x (suc u)) (elsewhere p n)))
+        grown = rw at (omega (arith, at-set after c (suc t) u (omega (arith, k .placing .each))))
+
+-- how the search ends, and what is left then: c has taken the position, ..
+pub settled : {reserved left marks visited visited′ before after l p : List ℕ} {c t : ℕ} → c < length marks → Cleared reserved marks visited before after c t
+    → Left reserved left after → l ≡ oneLess (givenBack left (getD after c 0)) t → p ≡ set after c (suc t)
+    → Searched reserved l marks visited visited′ before p c true
+settled {reserved} {marks = marks} {visited} {before = before} {after} {c = c} {t} inside k positions el ep = rw (el, ep) record {
+  positions = moved-to (k .placing) positions c t inside (k .below) (k .room);
+  found = λ e. settle reserved marks visited before after c t inside k;
+  stuck = λ e. absurd (never e);
+}
+  where
+    never : true ≡ false → ⊥
+    never e = let z : _≡_ {A = ℕ} 0 1 = cc in omega arith
+
+-- .. or there is none for it
+pub unsettled : {reserved left marks visited visited′ before after : List ℕ} {c : ℕ} → Stuck reserved marks visited visited′ before after c → Left reserved left after
+    → Searched reserved left marks visited visited′ before after c false
+unsettled k positions = record { positions = positions; found = λ e. absurd (never e); stuck = λ e. k }
+  where
+    never : false ≡ true → ⊥
+    never e = let z : _≡_ {A = ℕ} 0 1 = cc in omega arith

@@ -3,6 +3,7 @@ pub mod Step
 pub mod Choice
 pub mod Account
 pub mod Offers
+pub mod Left
 pub mod Search
 pub mod Taken
 pub mod Fill

@@ -7,7 +7,7 @@ use lib.Dec.{ltb}
 use lib.ListN.{length, getD, set, drop}
 use Rattle.round.specs.Lists.{count}
 use Rattle.choice.specs.Use.{holds, oneLess, Placing}
-use Rattle.choice.specs.Search.{atType}
+use Rattle.choice.specs.Left.{atType, Left}
 use Rattle.choice.specs.Step.{takenForUse}
 use Rattle.choice.specs.FirstPlacing.{typesOf}
 use Rattle.choice.specs.Fill.{typedAt}
@@ -28,9 +28,10 @@ pub record Reopened (before after : List ℕ) (u : ℕ) : Type 0 where
   pub others : (t : ℕ) → 0 < getD after t 0 → after ≡ before
 
 -- the front place has a type, and may get a smaller one; what is exhausted is so without it
-pub record Lowering (room marks placed exhausted : List ℕ) : Type 0 where
+pub record Lowering (room left marks placed exhausted : List ℕ) : Type 0 where
   pub few : length room ≤ 8
   pub placing : Placing room marks placed
+  pub positions : Left room left placed
   pub within : 0 < length marks
   pub some : 0 < getD placed 0 0
   pub types : length exhausted ≡ 8
@@ -38,27 +39,29 @@ pub record Lowering (room marks placed exhausted : List ℕ) : Type 0 where
 
 -- it has the smallest that any placing of the same places gives it; the marks of the others are as they were, and what is exhausted is so
 -- without it
-pub record Lowered (room marks marks′ before after exhausted : List ℕ) : Type 0 where
+pub record Lowered (room left′ marks marks′ before after exhausted : List ℕ) : Type 0 where
   pub placing : Placing room marks after
+  pub positions : Left room left′ after
   pub same : SameTyped after before
   pub others : (q : ℕ) → 0 < q → getD marks′ q 0 ≡ getD marks q 0
   pub sealed : Sealed room marks (set after 0 0) exhausted
   pub least : (others : List ℕ) → Placing room marks others → SameTyped others before → getD after 0 0 ≤ getD others 0 0
 
 -- place p has a type, and may get a smaller one; room is what the places before p leave of the positions
-pub record LoweringFrom (room marks placed exhausted : List ℕ) (p : ℕ) : Type 0 where
+pub record LoweringFrom (room left marks placed exhausted : List ℕ) (p : ℕ) : Type 0 where
   pub few : length room ≤ 8
   pub each : length placed ≡ length marks
   pub placing : Placing room (drop p marks) (drop p placed)
+  pub positions : Left room left (drop p placed)
   pub within : p < length marks
   pub some : 0 < getD placed p 0
   pub types : length exhausted ≡ 8
   pub sealed : Sealed room (drop p marks) (drop p placed) exhausted
 
 -- the places before p are as they were, the others are lowered, and one position of p's type is gone
-pub record LoweredFrom (room room′ marks marks′ before after exhausted : List ℕ) (p : ℕ) : Type 0 where
+pub record LoweredFrom (room room′ left′ marks marks′ before after exhausted : List ℕ) (p : ℕ) : Type 0 where
   pub above : (q : ℕ) → q < p → getD after q 0 ≡ getD before q 0
-  pub lowered : Lowered room (drop p marks) (drop p marks′) (drop p before) (drop p after) exhausted
+  pub lowered : Lowered room left′ (drop p marks) (drop p marks′) (drop p before) (drop p after) exhausted
   pub less : room′ ≡ oneLess room (getD after p 0 - 1)
 
 -- types at the same places, those of the first placing where it is asked for

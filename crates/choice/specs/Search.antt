@@ -1,24 +1,30 @@
 -- The search for a place (document 01, "One institute chooses": "seated candidates may be moved between types").
 -- placed has at each place a type, from 1, or 0; visited has at each type, from 0, whether the search has been there, 0 for no.
-use Prim.Native.Nat.{ℕ, suc, _≤_, _<_}
+use Prim.Native.Nat.{ℕ, suc, _-_, _≤_, _<_}
 use mathlib.Core.Path.{_≡_}
 use mathlib.Core.Bool.{Bool, true, false}
 use mathlib.Core.List.{List}
-use lib.Dec.{eqb}
 use lib.ListN.{length, getD}
-use Rattle.round.specs.Lists.{count}
 use Rattle.choice.specs.Use.{holds, Placing}
+use Rattle.choice.specs.Left.{atType, Left}
 
--- how many are placed at type t, from 0
-abbrev pub atType : List ℕ → ℕ → ℕ
-atType placed t = count (length placed) (λ p. eqb (getD placed p 0) (suc t))
+-- the search has been at all types of these marks
+abbrev pub NothingToTry : ℕ → List ℕ → Type 0
+NothingToTry marks visited = (u : ℕ) → u < 8 → holds marks u ≡ true → 0 < getD visited u 0
+
+-- the one before r is placed at type t, where r is not 0; for those from r up to the end who are, there is nothing to try
+pub record Sought (marks placed visited : List ℕ) (t end r : ℕ) : Type 0 where
+  pub within : r ≤ end
+  pub holder : 0 < r → getD placed (r - 1) 0 ≡ suc t
+  pub passed : (p : ℕ) → r ≤ p → p < end → getD placed p 0 ≡ suc t → NothingToTry (getD marks p 0) visited
 
 -- what a search for the one at place c starts from
-pub record Searching (reserved marks placed visited : List ℕ) (c : ℕ) : Type 0 where
+pub record Searching (reserved left marks placed visited : List ℕ) (c : ℕ) : Type 0 where
   pub few : length reserved ≤ 8
   pub types : length visited ≡ 8
   pub within : c < length marks
   pub placing : Placing reserved marks placed
+  pub positions : Left reserved left placed
 
 -- it ends with a placing of the same and c; who had no type, or a visited one, is not moved, and nobody comes to a visited type
 pub record Moved (reserved marks visited before after : List ℕ) (c : ℕ) : Type 0 where
@@ -38,6 +44,8 @@ pub record Stuck (reserved marks visited visited′ before after : List ℕ) (c 
       → holds (getD marks p 0) u ≡ true → 0 < getD visited′ u 0
   pub own : (u : ℕ) → u < length reserved → holds (getD marks c 0) u ≡ true → 0 < getD visited′ u 0
 
-pub record Searched (reserved marks visited visited′ before after : List ℕ) (c : ℕ) (r : Bool) : Type 0 where
+-- how it ends, and what is left then
+pub record Searched (reserved left′ marks visited visited′ before after : List ℕ) (c : ℕ) (r : Bool) : Type 0 where
+  pub positions : Left reserved left′ after
   pub found : r ≡ true → Moved reserved marks visited before after c
   pub stuck : r ≡ false → Stuck reserved marks visited visited′ before after c

@@ -8,6 +8,7 @@ use lib.ListN.{length, getD}
 use Rattle.round.specs.Lists.{count}
 use Rattle.choice.specs.Use.{Placing}
 use Rattle.choice.specs.Step.{takenForUse}
+use Rattle.choice.specs.Left.{Left}
 use Rattle.choice.specs.Search.{Moved, Stuck}
 
 -- only types without positions are exhausted
@@ -19,13 +20,15 @@ abbrev pub AllExhausted : ℕ → List ℕ → Type 0
 AllExhausted types exhausted = (t : ℕ) → t < types → 0 < getD exhausted t 0
 
 -- one more is placed and nothing more is exhausted, or it is not, and what the search visited is exhausted
-pub record Attempted (reserved marks exhausted exhausted′ before after : List ℕ) (c : ℕ) (r : Bool) : Type 0 where
+pub record Attempted (reserved left′ marks exhausted exhausted′ before after : List ℕ) (c : ℕ) (r : Bool) : Type 0 where
+  pub positions : Left reserved left′ after
   pub found : r ≡ true → Moved reserved marks exhausted before after c
   pub spared : r ≡ true → exhausted′ ≡ exhausted
   pub stuck : r ≡ false → Stuck reserved marks exhausted exhausted′ before after c
 
--- just those taken for use are given a type, by a placing, and r is their number
-pub record Took (reserved marks placed : List ℕ) (considered : ℕ → Bool) (r : ℕ) : Type 0 where
+-- just those taken for use are given a type, by a placing, and r is their number; left is what they leave
+pub record Took (reserved left marks placed : List ℕ) (considered : ℕ → Bool) (r : ℕ) : Type 0 where
   pub placing : Placing reserved marks placed
+  pub positions : Left reserved left placed
   pub each : (p : ℕ) → p < length marks → takenForUse reserved marks considered p ≡ ltb 0 (getD placed p 0)
   pub number : r ≡ count (length marks) (takenForUse reserved marks considered)

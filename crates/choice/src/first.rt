@@ -1,5 +1,8 @@
 // The first placing, from any: down the places each gets the smallest type with which those before keep theirs and all are placed. A type that
 // was searched for in vain stays exhausted until somebody who has it is lowered.
+use crate::left::positions_of;
+use crate::left::settle;
+use crate::left::vacate;
 use crate::placing::to_try;
 use crate::take::copy;
 use crate::take::take_for_use;
@@ -10,9 +13,10 @@ use round::word::wide;
 ghost use mathlib.Core.Path.{_≡_};
 ghost use mathlib.Core.Bool.{true};
 ghost use Prim.Native.Nat.{_^_, _≤_, _<_};
-ghost use lib.ListN.{length, take, replicate};
+ghost use lib.ListN.{length, replicate};
 ghost use Rattle.choice.specs.Use.{Placing};
 ghost use Rattle.choice.specs.Offers.{considersBy};
+ghost use Rattle.choice.specs.Left.{Left};
 ghost use Rattle.choice.specs.Lowered.{Reopened, Lowering, Lowered, LoweringFrom, LoweredFrom, PlacedFirst, TookTyped};
 
 // The marks of one type.
@@ -21,18 +25,6 @@ fn only(t: usize) -> u8
     ensures { λ r. ⌜ r ≡ 2 ^ t ⌝ }
 {
     1 << t
-}
-
-// The positions of each type, in an area of their own.
-fn positions_of(reserved: &[usize]) -> [usize; 8]
-    requires { ⌜ length (now reserved) ≤ 8 ⌝ }
-    ensures { λ r. ⌜ (length r ≡ 8) × (take (length (now (reserved .entry))) r ≡ now (reserved .entry)) ⌝ }
-{
-    let mut room = [0usize; 8];
-    for t in 0..reserved.len() {
-        room[t] = reserved[t];
-    }
-    room
 }
 
 // Forgets what is exhausted where type u is.
@@ -46,39 +38,52 @@ fn reopen(exhausted: &mut [u8], u: usize)
 }
 
 // Gives the front place the smallest type that it can have with all placed who are.
-fn lower(room: &[usize], marks: &mut [u8], placed: &mut [u8], exhausted: &mut [u8])
-    requires { ⌜ Lowering (now room) (now marks) (now placed) (now exhausted) ⌝ }
-    ensures { λ _. ⌜ Lowered (now (room .entry)) (now (marks .entry)) (now (marks .exit)) (now (placed .entry)) (now (placed .exit)) (now (exhausted .exit)) ⌝ }
+fn lower(
+    room: &[usize],
+    left: &mut [usize],
+    marks: &mut [u8],
+    placed: &mut [u8],
+    exhausted: &mut [u8],
+)
+    requires { ⌜ Lowering (now room) (now left) (now marks) (now placed) (now exhausted) ⌝ }
+    ensures { λ _. ⌜ Lowered (now (room .entry)) (now (left .exit)) (now (marks .entry)) (now (marks .exit)) (now (placed .entry)) (now (placed .exit)) (now (exhausted .exit)) ⌝ }
 {
     let own = marks[0];
     let last = wide(placed[0]) - 1;
-    placed[0] = 0;
+    vacate(left, placed, 0);
     for t in 0..last {
         if to_try(own, exhausted, t) {
             marks[0] = only(t);
-            if take_one(room, marks, placed, exhausted, 0) {
+            if take_one(room, left, marks, placed, exhausted, 0) {
                 return;
             }
         }
     }
-    placed[0] = (last + 1) as u8;
+    settle(left, placed, 0, last);
 }
 
 // Gives place p the smallest type that it can have with those before it as they are and all placed who are, and takes a position of that
 // type away.
-fn lower_at(room: &mut [usize], marks: &mut [u8], placed: &mut [u8], exhausted: &mut [u8], p: usize)
-    requires { ⌜ LoweringFrom (now room) (now marks) (now placed) (now exhausted) p ⌝ }
-    ensures { λ _. ⌜ LoweredFrom (now (room .entry)) (now (room .exit)) (now (marks .entry)) (now (marks .exit)) (now (placed .entry)) (now (placed .exit)) (now (exhausted .exit)) p ⌝ }
+fn lower_at(
+    room: &mut [usize],
+    left: &mut [usize],
+    marks: &mut [u8],
+    placed: &mut [u8],
+    exhausted: &mut [u8],
+    p: usize,
+)
+    requires { ⌜ LoweringFrom (now room) (now left) (now marks) (now placed) (now exhausted) p ⌝ }
+    ensures { λ _. ⌜ LoweredFrom (now (room .entry)) (now (room .exit)) (now (left .exit)) (now (marks .entry)) (now (marks .exit)) (now (placed .entry)) (now (placed .exit)) (now (exhausted .exit)) p ⌝ }
 {
     reopen(exhausted, wide(placed[p]) - 1);
-    lower(room, &mut marks[p..], &mut placed[p..], exhausted);
+    lower(room, left, &mut marks[p..], &mut placed[p..], exhausted);
     room[wide(placed[p]) - 1] -= 1;
 }
 
 // Lowers the types of all places, one after the other.
-fn lower_all(reserved: &[usize], marks: &[u8], placed: &mut [u8])
+fn lower_all(reserved: &[usize], left: &mut [usize], marks: &[u8], placed: &mut [u8])
     requires { ⌜ (length (now reserved) ≤ 8) × (length (now marks) ≤ 512) ⌝ }
-    requires { ⌜ Placing (now reserved) (now marks) (now placed) ⌝ }
+    requires { ⌜ Placing (now reserved) (now marks) (now placed) × Left (now reserved) (now left) (now placed) ⌝ }
     ensures { λ _. ⌜ PlacedFirst true (now (reserved .entry)) (now (marks .entry)) (now (placed .entry)) (now (placed .exit)) ⌝ }
 {
     let types = reserved.len();
@@ -91,6 +96,7 @@ fn lower_all(reserved: &[usize], marks: &[u8], placed: &mut [u8])
         if placed[p] != 0 {
             lower_at(
                 &mut room[..types],
+                left,
                 &mut held[..n],
                 placed,
                 &mut exhausted,
@@ -101,13 +107,13 @@ fn lower_all(reserved: &[usize], marks: &[u8], placed: &mut [u8])
 }
 
 // Makes a placing the first one of the same places, where that is asked for.
-fn place_first(first: bool, reserved: &[usize], marks: &[u8], placed: &mut [u8])
+fn place_first(first: bool, reserved: &[usize], left: &mut [usize], marks: &[u8], placed: &mut [u8])
     requires { ⌜ (length (now reserved) ≤ 8) × (length (now marks) ≤ 512) ⌝ }
-    requires { ⌜ Placing (now reserved) (now marks) (now placed) ⌝ }
+    requires { ⌜ Placing (now reserved) (now marks) (now placed) × Left (now reserved) (now left) (now placed) ⌝ }
     ensures { λ _. ⌜ PlacedFirst first (now (reserved .entry)) (now (marks .entry)) (now (placed .entry)) (now (placed .exit)) ⌝ }
 {
     if first {
-        lower_all(reserved, marks, placed);
+        lower_all(reserved, left, marks, placed);
     }
 }
 
@@ -124,7 +130,8 @@ pub fn take_typed(
     requires { ⌜ (length (now reserved) ≤ 8) × (code < 5) × (length (now marks) ≤ 512) × (length (now offers) ≡ length (now marks)) × (length (now steps) ≡ length (now marks)) × (now placed ≡ replicate (length (now marks)) 0) ⌝ }
     ensures { λ r. ⌜ TookTyped first (now (reserved .entry)) (now (marks .entry)) (now (placed .exit)) (considersBy (now (offers .entry)) (now (steps .entry)) code) r ⌝ }
 {
-    let count = take_for_use(reserved, marks, offers, steps, code, placed);
-    place_first(first, reserved, marks, placed);
+    let mut left = positions_of(reserved);
+    let count = take_for_use(reserved, &mut left, marks, offers, steps, code, placed);
+    place_first(first, reserved, &mut left, marks, placed);
     count
 }

@@ -1,6 +1,7 @@
 // One institute's choice: the steps of a list of rules, one after the other.
 pub mod fill;
 pub mod first;
+pub mod left;
 pub mod placing;
 pub mod step;
 pub mod take;

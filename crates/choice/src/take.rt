@@ -6,6 +6,7 @@ ghost use mathlib.Core.Bool.{false};
 ghost use Prim.Native.Nat.{_≤_, _<_};
 ghost use lib.ListN.{length, replicate};
 ghost use Rattle.choice.specs.Offers.{considersBy};
+ghost use Rattle.choice.specs.Left.{Left};
 ghost use Rattle.choice.specs.Search.{Searching};
 ghost use Rattle.choice.specs.Taken.{Without, AllExhausted, Attempted, Took};
 
@@ -57,17 +58,18 @@ fn some_open(exhausted: &[u8], types: usize) -> bool
 // Places p with those taken before, if that can be; what a search in vain visited is exhausted.
 pub fn take_one(
     reserved: &[usize],
+    left: &mut [usize],
     marks: &[u8],
     placed: &mut [u8],
     exhausted: &mut [u8],
     p: usize,
 ) -> bool
-    requires { ⌜ Searching (now reserved) (now marks) (now placed) (now exhausted) p ⌝ }
-    ensures { λ r. ⌜ Attempted (now (reserved .entry)) (now (marks .entry)) (now (exhausted .entry)) (now (exhausted .exit)) (now (placed .entry)) (now (placed .exit)) p r ⌝ }
+    requires { ⌜ Searching (now reserved) (now left) (now marks) (now placed) (now exhausted) p ⌝ }
+    ensures { λ r. ⌜ Attempted (now (reserved .entry)) (now (left .exit)) (now (marks .entry)) (now (exhausted .entry)) (now (exhausted .exit)) (now (placed .entry)) (now (placed .exit)) p r ⌝ }
 {
     let mut visited = [0u8; 8];
     copy(exhausted, &mut visited);
-    if place(reserved, marks, placed, &mut visited, p) {
+    if place(reserved, left, marks, placed, &mut visited, p) {
         true
     } else {
         copy(&visited, exhausted);
@@ -75,9 +77,10 @@ pub fn take_one(
     }
 }
 
-// Gives a type to each place that is taken for use, and returns their number.
+// Gives a type to each place that is taken for use, and returns their number; the positions left go along.
 pub fn take_for_use(
     reserved: &[usize],
+    left: &mut [usize],
     marks: &[u8],
     offers: &[u8],
     steps: &[u8],
@@ -85,7 +88,8 @@ pub fn take_for_use(
     placed: &mut [u8],
 ) -> usize
     requires { ⌜ (length (now reserved) ≤ 8) × (code < 5) × (length (now offers) ≡ length (now marks)) × (length (now steps) ≡ length (now marks)) × (now placed ≡ replicate (length (now marks)) 0) ⌝ }
-    ensures { λ r. ⌜ Took (now (reserved .entry)) (now (marks .entry)) (now (placed .exit)) (considersBy (now (offers .entry)) (now (steps .entry)) code) r ⌝ }
+    requires { ⌜ Left (now reserved) (now left) (now placed) ⌝ }
+    ensures { λ r. ⌜ Took (now (reserved .entry)) (now (left .exit)) (now (marks .entry)) (now (placed .exit)) (considersBy (now (offers .entry)) (now (steps .entry)) code) r ⌝ }
 {
     let mut exhausted = without_positions(reserved);
     let mut more = some_open(&exhausted, reserved.len());
@@ -93,7 +97,15 @@ pub fn take_for_use(
     for p in 0..marks.len() {
         if more {
             if considers(offers, steps, code, p) {
-                if take_one(reserved, marks, placed, &mut exhausted, p) {
+                let end = p + 1;
+                if take_one(
+                    reserved,
+                    left,
+                    &marks[..end],
+                    &mut placed[..end],
+                    &mut exhausted,
+                    p,
+                ) {
                     n += 1;
                 } else {
                     more = some_open(&exhausted, reserved.len());

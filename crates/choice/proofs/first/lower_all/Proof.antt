@@ -11,12 +11,12 @@ use Rattle.choice.proofs.first.lower_all.Statement.{statement}
 use Rattle.choice.proofs.first.lower_all.Tie as tie
 
 abbrev Inv-loop : tie.InvT-loop
-Inv-loop reserved marks placed₀ types n held₀ room₀ exhausted₀ p₀ placed held room exhausted p =
-    (p ≤ n) × (length held ≡ 512) × (length placed ≡ length placed₀) × (length room ≡ 8) × (length exhausted ≡ 8)
-    × LoweredTo reserved marks placed₀ (take types room) (take n held) placed exhausted p
+Inv-loop reserved left₀ marks placed₀ types n held₀ room₀ exhausted₀ p₀ left placed held room exhausted p =
+    (p ≤ n) × (length held ≡ 512) × (length placed ≡ length placed₀) × (length room ≡ 8) × (length exhausted ≡ 8) × (length left ≡ length left₀)
+    × LoweredTo reserved marks placed₀ (take types room) left (take n held) placed exhausted p
 
 abbrev μ-loop : tie.MeasureT-loop
-μ-loop reserved marks placed₀ types n held₀ room₀ exhausted₀ p₀ placed held room exhausted p = n - p
+μ-loop reserved left₀ marks placed₀ types n held₀ room₀ exhausted₀ p₀ left placed held room exhausted p = n - p
 
 zeros-requires : tie.Need-zeros-requires Inv-loop μ-loop
 zeros-requires c κs = search needs
@@ -44,7 +44,8 @@ loop-holds c =
       refl,
       c .positions-of .ensures .0,
       refl,
-      unlowered _ _ _ (start .pre .1) (c .positions-of .ensures .1) (written .0 ∙ copied .copy .ensures),
+      refl,
+      unlowered _ _ _ (start .pre .1 .0) (start .pre .1 .1) (c .positions-of .ensures .1) (written .0 ∙ copied .copy .ensures),
     )
 
 slice-read-if1 : tie.Need-slice-read-if1 Inv-loop μ-loop
@@ -70,7 +71,7 @@ lower-at-requires c κs =
     let start : tie.Start Inv-loop μ-loop = search needs in
     let at : tie.At-loop Inv-loop μ-loop = search needs in
     let tested : tie.Then1 Inv-loop μ-loop = search needs in
-    lowering-from _ _ _ (at .loop .inv .5) (omega arith) (start .pre .0 .0) (tested .if1 .taken)
+    lowering-from _ _ _ (at .loop .inv .6) (omega arith) (start .pre .0 .0) (tested .if1 .taken)
 
 add-p : tie.Need-add-p Inv-loop μ-loop
 add-p c = search needs
@@ -84,35 +85,40 @@ loop-again c =
     let at : tie.At-loop Inv-loop μ-loop = search needs in
     let n = length (start .args .marks .now) in
     let types = length (start .args .reserved .now) in
-    let k = at .loop .inv .5 in
+    let k = at .loop .inv .6 in
     ⊎-elim
     (λ w.
-    let less = front-written types (at .loop .room) (w .5 .last .0) (w .13) (w .5 .kept .0) (omega arith) in
-    let written = front-written n (at .loop .held) (w .5 .last .1 .0) (w .12) (w .5 .kept .1 .0) (omega arith) in (
+    let less = front-written types (at .loop .room) (w .6 .last .0) (w .17) (w .6 .kept .0) (omega arith) in
+    let written = front-written n (at .loop .held) (w .6 .last .1 .1 .0) (w .16) (w .6 .kept .1 .1 .0) (omega arith) in (
       omega arith,
       omega (arith, written .1),
-      ap length (w .11) ∙ w .5 .kept .1 .1 .0 ∙ at .loop .inv .2,
+      ap length (w .15) ∙ w .6 .kept .1 .1 .1 .0 ∙ at .loop .inv .2,
       omega (arith, less .1),
-      ap length (w .14) ∙ w .5 .kept .1 .1 .1 .0 ∙ at .loop .inv .4,
-      lowered-one _ _ _ k (omega arith) (w .5 .ensures) (w .0 .taken) (w .5 .kept .1 .0) (less .0) (written .0) (w .11) (w .14) (w .5 .kept .1 .1 .1 .0),
+      ap length (w .18) ∙ w .6 .kept .1 .1 .1 .1 .0 ∙ at .loop .inv .4,
+      ap length (w .14) ∙ w .6 .kept .1 .0 ∙ at .loop .inv .5,
+      lowered-one _ _ _ k (omega arith) (w .6 .ensures) (w .0 .taken) (w .6 .kept .1 .1 .0) (less .0) (w .14) (written .0) (w .15) (w .18) (w .6 .kept .1 .1 .1 .1 .0),
     ))
     (λ w. (
       omega arith,
-      ap length (w .2) ∙ at .loop .inv .1,
-      ap length (w .1) ∙ at .loop .inv .2,
-      ap length (w .3) ∙ at .loop .inv .3,
-      ap length (w .4) ∙ at .loop .inv .4,
-      lowered-none _ _ _ k (omega arith) (omega (arith, w .0 .left)) (ap (take types) (w .3)) (ap (take n) (w .2)) (w .1) (w .4),
+      ap length (w .3) ∙ at .loop .inv .1,
+      ap length (w .2) ∙ at .loop .inv .2,
+      ap length (w .4) ∙ at .loop .inv .3,
+      ap length (w .5) ∙ at .loop .inv .4,
+      ap length (w .1) ∙ at .loop .inv .5,
+      lowered-none _ _ _ k (omega arith) (omega (arith, w .0 .left)) (ap (take types) (w .4)) (w .1) (ap (take n) (w .3)) (w .2) (w .5),
     ))
     (c .if1 .came)
 
 same-length : tie.Need-same-length Inv-loop μ-loop
 same-length c = search needs
 
+same-length-2 : tie.Need-same-length-2 Inv-loop μ-loop
+same-length-2 c = search needs
+
 returns : tie.Need-returns Inv-loop μ-loop
 returns c =
     let at : tie.At-loop Inv-loop μ-loop = search needs in
-    lowered-all _ _ _ (at .loop .inv .5) (omega arith)
+    lowered-all _ _ _ (at .loop .inv .6) (omega arith)
 
 pub lower-all-spec : {M : Type 1} → statement M
 lower-all-spec =
@@ -137,4 +143,5 @@ lower-all-spec =
     loop-less
     loop-again
     same-length
+    same-length-2
     returns)

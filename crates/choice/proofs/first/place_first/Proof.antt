@@ -10,6 +10,9 @@ lower-all-requires c κs = search needs
 same-length : tie.Need-same-length
 same-length c = search needs
 
+same-length-2 : tie.Need-same-length-2
+same-length-2 c = search needs
+
 returns : tie.Need-returns
 returns c = search placed-first
 
@@ -17,4 +20,4 @@ returns-2 : tie.Need-returns-2
 returns-2 c = search as-placed-first
 
 pub place-first-spec : {M : Type 1} → statement M
-place-first-spec = tie.close (tie.spec lower-all-requires same-length returns returns-2)
+place-first-spec = tie.close (tie.spec lower-all-requires same-length same-length-2 returns returns-2)

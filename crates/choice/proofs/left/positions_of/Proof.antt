@@ -1,4 +1,4 @@
--- `choice::first::positions_of` meets its contract: the loop writes one number after the other. Assumes nothing.
+-- `choice::left::positions_of` meets its contract: the loop writes one number after the other. Assumes nothing.
 use Prim.Native.Nat.{_-_, _≤_}
 use mathlib.Core.Path.{_≡_, refl}
 use lib.ListN.{length, getD}
@@ -6,8 +6,8 @@ use native.Mathlib.Omega.{arith}
 use Rattle.choice.proofs.Written.{Written, begin, write}
 use Rattle.choice.proofs.LowerFrom.{front-copied}
 use borrow.Author.Needs.{needs}
-use Rattle.choice.proofs.first.positions_of.Statement.{statement}
-use Rattle.choice.proofs.first.positions_of.Tie as tie
+use Rattle.choice.proofs.left.positions_of.Statement.{statement}
+use Rattle.choice.proofs.left.positions_of.Tie as tie
 
 abbrev Inv-loop : tie.InvT-loop
 Inv-loop reserved room₀ t₀ t-end room t =
