@@ -63,6 +63,11 @@ bit-same a b e = bit-true (eqb a b) (eq-eqb a b e)
 pub bit-other : (a b : ℕ) → a ≢ b → bit (eqb a b) ≡ 0
 bit-other a b n = bit-false (eqb a b) (ne-eqb a b n)
 
+pub bit-suc : (a b : ℕ) → bit (eqb (suc a) (suc b)) ≡ bit (eqb a b)
+bit-suc a b =
+    sameOr a b (λ e. bit-same (suc a) (suc b) (ap suc e) ∙ sym (bit-same a b e))
+    (λ n. bit-other (suc a) (suc b) (λ e. n (omega arith)) ∙ sym (bit-other a b n))
+
 pub bit-le : (a b : Bool) → (a ≡ true → b ≡ true) → bit a ≤ bit b
 bit-le true b h = omega (arith, bit-true b (h refl))
 bit-le false b h = omega arith

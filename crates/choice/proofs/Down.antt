@@ -21,6 +21,7 @@ use Rattle.choice.proofs.Tabulate.{getD-zeros}
 use Rattle.choice.proofs.Use.{placed, PlacingTo, placed-raises}
 use Rattle.choice.proofs.Tight.{placed-blocked}
 use Rattle.choice.proofs.Taking.{takenForUse-considered, takenBefore-placed}
+use Rattle.choice.proofs.PositionsLeft.{one-taken}
 use Rattle.choice.proofs.FrontPlaces.{searching-front, attempted-all}
 
 -- just those taken below p have a type; left is what they leave of the positions; the exhausted types are full, and who is placed at one
@@ -38,11 +39,12 @@ pub record Down (reserved marks : List ℕ) (considered : ℕ → Bool) (left pl
   pub over : more ≡ false → AllExhausted (length reserved) exhausted
 
 -- what a search says of the list that its visited types start from
-pub attempted-found : (reserved marks : List ℕ) {left′ v e v′ b a : List ℕ} (c : ℕ) {r : Bool} → Searched reserved left′ marks v v′ b a c r → v ≡ e → r ≡ true
-    → Attempted reserved left′ marks e e b a c true
-attempted-found reserved marks {left′} {v} {e} {v′} {b} {a} c s same r = record {
+pub attempted-found : (reserved marks : List ℕ) {left left′ v e v′ b a : List ℕ} (c : ℕ) {r : Bool} → Searched reserved left′ marks v v′ b a c r → v ≡ e → r ≡ true → Left reserved left b
+    → Attempted reserved left left′ marks e e b a c true
+attempted-found reserved marks {left} {left′} {v} {e} {v′} {b} {a} c s same r positions = record {
   positions = s .positions;
   found = λ t. subst (λ (l : List ℕ). Moved reserved marks l b a c) same (s .found r);
+  one = λ t. one-taken c (s .found r .placing) positions (s .positions) (s .found r .ends);
   spared = λ t. refl;
   stuck = λ f. absurd (never f);
 }
@@ -50,11 +52,12 @@ attempted-found reserved marks {left′} {v} {e} {v′} {b} {a} c s same r = rec
     never : true ≡ false → ⊥
     never f = let z : _≡_ {A = ℕ} 0 1 = cc in omega arith
 
-pub attempted-stuck : (reserved marks : List ℕ) {left′ v e v′ e′ b a : List ℕ} (c : ℕ) {r : Bool} → Searched reserved left′ marks v v′ b a c r → v ≡ e → e′ ≡ v′
-    → r ≡ false → Attempted reserved left′ marks e e′ b a c false
-attempted-stuck reserved marks {left′} {v} {e} {v′} {e′} {b} {a} c s same copied r = record {
+pub attempted-stuck : (reserved marks : List ℕ) {left left′ v e v′ e′ b a : List ℕ} (c : ℕ) {r : Bool} → Searched reserved left′ marks v v′ b a c r → v ≡ e → e′ ≡ v′
+    → r ≡ false → Attempted reserved left left′ marks e e′ b a c false
+attempted-stuck reserved marks {left} {left′} {v} {e} {v′} {e′} {b} {a} c s same copied r = record {
   positions = s .positions;
   found = λ t. absurd (never t);
+  one = λ t. absurd (never t);
   spared = λ t. absurd (never t);
   stuck = λ f.
       subst (λ (l : List ℕ). Stuck reserved marks e l b a c) (sym copied)
@@ -247,10 +250,10 @@ module _ (reserved marks : List ℕ) (X : ℕ → Bool) where
     beyond q l = d .rest q (omega arith)
 
     pub searching : length reserved ≤ 8 → Searching reserved left (take (p + 1) marks) (take (p + 1) placed₀) exhausted p
-    searching few = searching-front (d .placing) (p + 1) (omega arith) beyond (d .positions) few (d .types) (omega arith)
+    searching few = searching-front (d .placing) (p + 1) (omega arith) beyond (d .positions) few (d .types) (omega arith) (d .rest p (omega arith))
 
-    among-all : {left′ part exhausted′ : List ℕ} {b : Bool} → Attempted reserved left′ (take (p + 1) marks) exhausted exhausted′ (take (p + 1) placed₀) part p b
-        → length part ≡ length (take (p + 1) placed₀) → Attempted reserved left′ marks exhausted exhausted′ placed₀ (part ++ drop (p + 1) placed₀) p b
+    among-all : {left′ part exhausted′ : List ℕ} {b : Bool} → Attempted reserved left left′ (take (p + 1) marks) exhausted exhausted′ (take (p + 1) placed₀) part p b
+        → length part ≡ length (take (p + 1) placed₀) → Attempted reserved left left′ marks exhausted exhausted′ placed₀ (part ++ drop (p + 1) placed₀) p b
     among-all {part = part} a sized = attempted-all (d .placing) (p + 1) (omega arith) beyond part sized (omega arith) a
 
     -- what stands after the place, as the code leaves it: where all types are exhausted, ..
@@ -265,7 +268,7 @@ module _ (reserved marks : List ℕ) (X : ℕ → Bool) where
 
         -- .. where it is placed, and where the search for it is in vain
         module _ {left′ part exhausted′ : List ℕ} {b : Bool} (in-play : r ≡ true)
-            (a : Attempted reserved left′ (take (p + 1) marks) exhausted exhausted′ (take (p + 1) placed₀) part p b)
+            (a : Attempted reserved left left′ (take (p + 1) marks) exhausted exhausted′ (take (p + 1) placed₀) part p b)
             (sized : length part ≡ length (take (p + 1) placed₀)) where
           pub placed-one : b ≡ true → f ≡ left′ → l ≡ part ++ drop (p + 1) placed₀ → e ≡ exhausted′ → o ≡ more → m ≡ n + 1 → Down reserved marks X f l e o m (p + 1)
           placed-one got ef el ee eo en =

@@ -63,14 +63,15 @@ module _ {reserved marks placed : List ℕ} (k : Placing reserved marks placed) 
   typed-below : (q t : ℕ) → getD placed q 0 ≡ suc t → q < end
   typed-below q t e = lessOr q end (λ b. b) (λ b. absurd (omega (arith, rest q b)))
 
-  pub searching-front : {left exhausted : List ℕ} {p : ℕ} → Left reserved left placed → length reserved ≤ 8 → length exhausted ≡ 8 → p < end
+  pub searching-front : {left exhausted : List ℕ} {p : ℕ} → Left reserved left placed → length reserved ≤ 8 → length exhausted ≡ 8 → p < end → getD placed p 0 ≡ 0
       → Searching reserved left (take end marks) (take end placed) exhausted p
-  searching-front positions few types inside = record {
+  searching-front {p = p} positions few types inside none = record {
     few = few;
     types = types;
     within = omega (arith, marks-each);
     placing = placing-alike placed (take end placed) front-same k (front-each ∙ sym marks-each)
         (λ q t e. let b = typed-below q t e in (omega arith, sym (getD-take end marks q 0 b)));
+    away = λ t e. absurd (omega (arith, front-same p));
     positions = left-alike placed (take end placed) front-same positions;
   }
 
@@ -105,6 +106,11 @@ module _ {reserved marks placed : List ℕ} (k : Placing reserved marks placed) 
       placing = placing-alike part whole back-same (m .placing) (length-front placed part end sized ∙ k .each)
           (λ q t e. let b = part-below q t e in (omega (arith, marks-each), getD-take end marks q 0 b));
       reached = omega (arith, m .reached, back-same p);
+      ends = record {
+        last = m .ends .last;
+        below = m .ends .below;
+        counts = λ t. rw (front-same p) (omega (arith, m .ends .counts t, as-many-at part whole back-same t, as-many-at placed (take end placed) front-same t));
+      };
       kept = λ q b. omega (arith, back-same q, m .kept q (omega (arith, front-same q)));
       apart = λ q other e. sym (back-same q) ∙ m .apart q other (sym (front-same q) ∙ e);
       stays = λ q t other v e. sym (back-same q) ∙ m .stays q t other v (sym (front-same q) ∙ e);
@@ -121,12 +127,13 @@ module _ {reserved marks placed : List ℕ} (k : Placing reserved marks placed) 
       own = λ u b h. s .own u b (rw (getD-take end marks p 0 inside) h);
     }
 
-    pub attempted-all : {left′ exhausted exhausted′ : List ℕ} {p : ℕ} {r : Bool} → p < end
-        → Attempted reserved left′ (take end marks) exhausted exhausted′ (take end placed) part p r
-        → Attempted reserved left′ marks exhausted exhausted′ placed whole p r
+    pub attempted-all : {left left′ exhausted exhausted′ : List ℕ} {p : ℕ} {r : Bool} → p < end
+        → Attempted reserved left left′ (take end marks) exhausted exhausted′ (take end placed) part p r
+        → Attempted reserved left left′ marks exhausted exhausted′ placed whole p r
     attempted-all inside a = record {
       positions = left-alike part whole back-same (a .positions);
       found = λ e. moved-all (a .found e);
+      one = λ e none. a .one e (sym (front-same _) ∙ none);
       spared = a .spared;
       stuck = λ e. stuck-all inside (a .stuck e);
     }

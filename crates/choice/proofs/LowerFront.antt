@@ -137,21 +137,22 @@ module _ {room left₀ marks₀ before exhausted₀ vacant : List ℕ} (s : Lowe
         held = λ q u l e. rw (alone-off q (away q u e)) (vacant-placing .held q u (rw (length-set marks₀ 0 (2 ^ t)) at l) e);
         within = vacant-placing .within;
       };
+      away = λ u e. absurd (away 0 u e refl);
       positions = k .positions;
     }
 
     -- what the attempt says, of the places and the marks at the start
-    attempted-from : {left′ exhausted′ after : List ℕ} {r : Bool} → Attempted room left′ (set marks 0 o) exhausted exhausted′ placed after 0 r
-        → Attempted room left′ (set marks₀ 0 (2 ^ t)) exhausted exhausted′ vacant after 0 r
+    attempted-from : {left′ exhausted′ after : List ℕ} {r : Bool} → Attempted room left left′ (set marks 0 o) exhausted exhausted′ placed after 0 r
+        → Attempted room left left′ (set marks₀ 0 (2 ^ t)) exhausted exhausted′ vacant after 0 r
     attempted-from {left′} {exhausted′} {after} {r} attempted =
-        subst (λ (l : List ℕ). Attempted room left′ l exhausted exhausted′ vacant after 0 r) marked
-        (subst (λ (l : List ℕ). Attempted room left′ (set marks 0 o) exhausted exhausted′ l after 0 r) (k .as-placed) attempted)
+        subst (λ (l : List ℕ). Attempted room left left′ l exhausted exhausted′ vacant after 0 r) marked
+        (subst (λ (l : List ℕ). Attempted room left left′ (set marks 0 o) exhausted exhausted′ l after 0 r) (k .as-placed) attempted)
 
     as-marked-again : (m : ℕ) → set (set marks 0 o) 0 m ≡ set marks₀ 0 m
     as-marked-again m = set-set marks 0 o m ∙ k .as-marked m
 
     -- it cannot be had
-    pub missed : {left′ exhausted′ after f m l v : List ℕ} {r : Bool} → Attempted room left′ (set marks 0 o) exhausted exhausted′ placed after 0 r → r ≡ false → length exhausted′ ≡ length exhausted
+    pub missed : {left′ exhausted′ after f m l v : List ℕ} {r : Bool} → Attempted room left left′ (set marks 0 o) exhausted exhausted′ placed after 0 r → r ≡ false → length exhausted′ ≡ length exhausted
         → f ≡ left′ → m ≡ set marks 0 o → l ≡ after → v ≡ exhausted′ → Lowers room marks₀ vacant f m l v (t + 1)
     missed {left′} {exhausted′} {after} attempted none-left kept ef em el ev = rw (ef, em, el, ev) record {
       as-marked = as-marked-again;
@@ -174,7 +175,7 @@ module _ {room left₀ marks₀ before exhausted₀ vacant : List ℕ} (s : Lowe
 
     -- the front place gets it
     pub reached : {left′ exhausted′ after : List ℕ} {b r : Bool} → b ≡ (holds (getD marks₀ 0 0) t && eqb (getD exhausted t 0) 0) → b ≡ true
-        → Attempted room left′ (set marks 0 o) exhausted exhausted′ placed after 0 r → r ≡ true → Lowered room left′ marks₀ (set marks 0 o) before after exhausted′
+        → Attempted room left left′ (set marks 0 o) exhausted exhausted′ placed after 0 r → r ≡ true → Lowered room left′ marks₀ (set marks 0 o) before after exhausted′
     reached {left′} {exhausted′} {after} test passed attempted some-type =
         rw (attempted .spared some-type) (settled k as-marked-again placing (attempted .positions) same at sealed)
       where

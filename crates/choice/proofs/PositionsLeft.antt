@@ -12,7 +12,8 @@ use lib.Seq.{getD-set-same, getD-set-other, getD-take, set-set}
 use borrow.Author.Tests.{ne-eqb}
 use Rattle.round.specs.Lists.{bit, count}
 use Rattle.choice.specs.Use.{oneLess, Placing}
-use Rattle.choice.specs.Left.{atType, Left, givenBack, Vacating}
+use Rattle.choice.specs.Left.{atType, Left, OneTaken, givenBack, Vacating}
+use Rattle.choice.specs.Search.{Ends}
 use Rattle.choice.proofs.Counting.{lessOr, sameOr, bit-same, bit-other}
 use Rattle.choice.proofs.Tabulate.{getD-zeros}
 use Rattle.choice.proofs.Counts.{count-one, count-rest}
@@ -63,6 +64,15 @@ some-left k l t b some = omega (arith, l .less t b, k .within t b)
 pub left-some : {reserved left placed : List ℕ} → Left reserved left placed → (t : ℕ) → t < length reserved
     → atType placed t < getD reserved t 0 → 0 < getD left t 0
 left-some l t b room = omega (arith, l .less t b)
+
+-- one more is placed, and moves end at one type: one position of it is taken
+pub one-taken : {reserved left left′ marks before after : List ℕ} (c : ℕ) → Placing reserved marks after → Left reserved left before → Left reserved left′ after
+    → Ends reserved before after (getD before c 0) → getD before c 0 ≡ 0 → OneTaken reserved left left′
+one-taken {before = before} c k l l′ e none = record {
+  type = e .last;
+  below = e .below;
+  taken = λ t b. omega (arith, l .less t b, l′ .less t b, k .within t b, e .counts t, bit-other (getD before c 0) (suc t) (λ s. omega arith));
+}
 
 -- nobody is placed
 pub nobody-placed : (reserved left placed : List ℕ) (n : ℕ) → length reserved ≤ length left → take (length reserved) left ≡ reserved → placed ≡ replicate n 0

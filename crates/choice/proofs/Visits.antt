@@ -1,5 +1,5 @@
 -- The search for a place, one type and one holder after the other: what is known where it stands, and how it goes on.
-use Prim.Native.Nat.{ℕ, suc, _+_, _-_, _≤_, _<_}
+use Prim.Native.Nat.{ℕ, zero, suc, _+_, _-_, _≤_, _<_}
 use mathlib.Core.Path.{_≡_, refl, sym, ap, subst, _∙_}
 use mathlib.Core.Bool.{Bool, true, false, _&&_}
 use mathlib.Core.List.{List}
@@ -14,8 +14,8 @@ use Rattle.choice.specs.declared.placing.Found.{Found}
 use Rattle.choice.specs.declared.placing.Found.the-variants.{At, Nothing}
 use Rattle.choice.specs.Use.{holds, oneLess, Placing}
 use Rattle.choice.specs.Left.{atType, Left, givenBack}
-use Rattle.choice.specs.Search.{NothingToTry, Sought, Moved, Stuck, Searched}
-use Rattle.choice.proofs.Counting.{lessOr, sameOr, bit-true, bit-false, count-less}
+use Rattle.choice.specs.Search.{NothingToTry, Sought, Ends, Moved, Stuck, Searched}
+use Rattle.choice.proofs.Counting.{lessOr, sameOr, bit-true, bit-false, bit-suc, count-less}
 use Rattle.choice.proofs.PositionsLeft.{at-set, moved-to}
 
 -- the types visited since: each is full, and who is placed at one holds visited types only
@@ -43,6 +43,7 @@ pub record Cleared (reserved marks visited before after : List ℕ) (c t : ℕ) 
   pub held : holds (getD marks c 0) t ≡ true
   pub placing : Placing reserved marks after
   pub room : atType after t < getD reserved t 0
+  pub ends : Ends reserved before after (suc t)
   pub kept : (p : ℕ) → 0 < getD before p 0 → 0 < getD after p 0
   pub apart : (p : ℕ) → getD before p 0 ≡ 0 → getD after p 0 ≡ 0
   pub stays : (p u : ℕ) → 0 < getD visited u 0 → getD before p 0 ≡ suc u → getD after p 0 ≡ suc u
@@ -214,6 +215,7 @@ module _ (reserved marks placed : List ℕ) where
       held = held;
       placing = placing;
       room = room;
+      ends = record { last = t; below = below; counts = λ u. omega (arith, bit-suc t u) };
       kept = λ p l. l;
       apart = λ p e. e;
       stays = λ p u v e. e;
@@ -243,6 +245,10 @@ module _ (reserved marks placed : List ℕ) where
               lost : 0 < getD visited′ u 0 → ⊥
               lost v = omega (arith, eqb-true (getD visited′ u 0) 0 e)
 
+      -- who is placed there has a visited type
+      pub at-visited : {before : List ℕ} (g : ℕ) → before ≡ placed → getD before g 0 ≡ suc t → (u : ℕ) → getD before g 0 ≡ suc u → 0 < getD visited′ u 0
+      at-visited g was at u e = let same : u ≡ t = omega arith in rw same here
+
       -- the holder at place h has moved
       pub cleared : {before after : List ℕ} {g : ℕ} → before ≡ placed → g < length placed → Placing reserved marks placed
           → getD before g 0 ≡ suc t → Moved reserved marks visited′ before after g → Cleared reserved marks visited₀ placed after c t
@@ -252,6 +258,7 @@ module _ (reserved marks placed : List ℕ) where
         held = held;
         placing = m .placing;
         room = room;
+        ends = rw (← at) (m .ends);
         kept = m .kept;
         apart = λ p e. m .apart p (λ q. omega (arith, at, e, place q)) e;
         stays = λ p u v e. m .stays p u (λ q. other p u q v e) (since u (k .grown .more u v)) e;
@@ -310,10 +317,15 @@ module _ (reserved marks placed : List ℕ) where
 
 -- c takes the position
 pub settle : (reserved marks visited before after : List ℕ) (c t : ℕ) → c < length marks
-    → Cleared reserved marks visited before after c t → Moved reserved marks visited before (set after c (suc t)) c
-settle reserved marks visited before after c t inside k = record {
+    → ((u : ℕ) → getD before c 0 ≡ suc u → 0 < getD visited u 0) → Cleared reserved marks visited before after c t → Moved reserved marks visited before (set after c (suc t)) c
+settle reserved marks visited before after c t inside away k = record {
   placing = record { each = length-set after c (suc t) ∙ k .placing .each; held = held; within = within };
   reached = rw at (omega arith);
+  ends = record {
+    last = k .ends .last;
+    below = k .ends .below;
+    counts = λ u. rw (← unmoved) (omega (arith, at-set after c (suc t) u here, k .ends .counts u));
+  };
   kept = λ p l. sameOr p c (λ q. rw (q, at) (omega arith)) (λ n. rw (elsewhere p n) (k .kept p l));
   apart = λ p n e. elsewhere p n ∙ k .apart p e;
   stays = λ p u n v e. elsewhere p n ∙ k .stays p u v e;
@@ -321,8 +333,19 @@ settle reserved marks visited before after c t inside k = record {
       sameOr p c (λ q. absurd (fresh u v (type p u q e))) (λ n. (k .comes p u v (sym (elsewhere p n) ∙ e), n));
 }
   where
+    here : c < length after
+    here = omega (arith, k .placing .each)
+
     at : getD (set after c (suc t)) c 0 ≡ suc t
-    at = getD-set-same after c (suc t) 0 (omega (arith, k .placing .each))
+    at = getD-set-same after c (suc t) 0 here
+
+    -- c has not moved before
+    unmoved : getD after c 0 ≡ getD before c 0
+    unmoved = go (getD before c 0) refl
+      where
+        go : (x : ℕ) → getD before c 0 ≡ x → getD after c 0 ≡ getD before c 0
+        go zero e = k .apart c e ∙ sym e
+        go (suc u) e = k .stays c u (away u e) e ∙ sym e
 
     elsewhere : (p : ℕ) → (p ≡ c → ⊥) → getD (set after c (suc t)) p 0 ≡ getD after p 0
     elsewhere p n = getD-set-other after c p (suc t) 0 n
@@ -349,15 +372,15 @@ settle reserved marks visited before after c t inside k = record {
         (arith, grown, k .placing .within u l, bit-false _ (ne-eqb (getD (set after c (suc t)) c 0) (suc u) (λ e. n (omega (arith, at))))))
       where
         grown : atType (set after c (suc t)) u ≤ atType after u + bit (eqb (getD (set after c (suc t)) c 0) (suc u))
-        grown = rw at (omega (arith, at-set after c (suc t) u (omega (arith, k .placing .each))))
+        grown = rw at (omega (arith, at-set after c (suc t) u here))
 
 -- how the search ends, and what is left then: c has taken the position, ..
-pub settled : {reserved left marks visited visited′ before after l p : List ℕ} {c t : ℕ} → c < length marks → Cleared reserved marks visited before after c t
-    → Left reserved left after → l ≡ oneLess (givenBack left (getD after c 0)) t → p ≡ set after c (suc t)
+pub settled : {reserved left marks visited visited′ before after l p : List ℕ} {c t : ℕ} → c < length marks
+    → ((u : ℕ) → getD before c 0 ≡ suc u → 0 < getD visited u 0) → Cleared reserved marks visited before after c t → Left reserved left after → l ≡ oneLess (givenBack left (getD after c 0)) t → p ≡ set after c (suc t)
     → Searched reserved l marks visited visited′ before p c true
-settled {reserved} {marks = marks} {visited} {before = before} {after} {c = c} {t} inside k positions el ep = rw (el, ep) record {
+settled {reserved} {marks = marks} {visited} {before = before} {after} {c = c} {t} inside away k positions el ep = rw (el, ep) record {
   positions = moved-to (k .placing) positions c t inside (k .below) (k .room);
-  found = λ e. settle reserved marks visited before after c t inside k;
+  found = λ e. settle reserved marks visited before after c t inside away k;
   stuck = λ e. absurd (never e);
 }
   where

@@ -5,7 +5,7 @@ use mathlib.Core.Path.{_≡_}
 use mathlib.Core.List.{List}
 use lib.Dec.{eqb}
 use lib.ListN.{length, getD, set}
-use Rattle.round.specs.Lists.{count}
+use Rattle.round.specs.Lists.{bit, count}
 
 -- how many are placed at type t, from 0
 abbrev pub atType : List ℕ → ℕ → ℕ
@@ -15,6 +15,12 @@ atType placed t = count (length placed) (λ p. eqb (getD placed p 0) (suc t))
 pub record Left (reserved left placed : List ℕ) : Type 0 where
   pub each : length reserved ≤ length left
   pub less : (t : ℕ) → t < length reserved → getD left t 0 ≡ getD reserved t 0 - atType placed t
+
+-- one position is taken, of one type and of no other
+pub record OneTaken (reserved left left′ : List ℕ) : Type 0 where
+  pub type : ℕ
+  pub below : type < length reserved
+  pub taken : (t : ℕ) → t < length reserved → getD left′ t 0 + bit (eqb type t) ≡ getD left t 0
 
 -- the values with a position of a type, from 1, given back, or none for 0
 abbrev pub givenBack : List ℕ → ℕ → List ℕ

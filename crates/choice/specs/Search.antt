@@ -1,10 +1,12 @@
 -- The search for a place (document 01, "One institute chooses": "seated candidates may be moved between types").
 -- placed has at each place a type, from 1, or 0; visited has at each type, from 0, whether the search has been there, 0 for no.
-use Prim.Native.Nat.{ℕ, suc, _-_, _≤_, _<_}
+use Prim.Native.Nat.{ℕ, suc, _+_, _-_, _≤_, _<_}
 use mathlib.Core.Path.{_≡_}
 use mathlib.Core.Bool.{Bool, true, false}
 use mathlib.Core.List.{List}
+use lib.Dec.{eqb}
 use lib.ListN.{length, getD}
+use Rattle.round.specs.Lists.{bit}
 use Rattle.choice.specs.Use.{holds, Placing}
 use Rattle.choice.specs.Left.{atType, Left}
 
@@ -18,18 +20,26 @@ pub record Sought (marks placed visited : List ℕ) (t end r : ℕ) : Type 0 whe
   pub holder : 0 < r → getD placed (r - 1) 0 ≡ suc t
   pub passed : (p : ℕ) → r ≤ p → p < end → getD placed p 0 ≡ suc t → NothingToTry (getD marks p 0) visited
 
--- what a search for the one at place c starts from
+-- what a search for the one at place c starts from: c has no type, or a visited one
 pub record Searching (reserved left marks placed visited : List ℕ) (c : ℕ) : Type 0 where
   pub few : length reserved ≤ 8
   pub types : length visited ≡ 8
   pub within : c < length marks
   pub placing : Placing reserved marks placed
+  pub away : (t : ℕ) → getD placed c 0 ≡ suc t → 0 < getD visited t 0
   pub positions : Left reserved left placed
+
+-- moves from a type, from 1, or from none, 0, end at one type: there is one more, at the first one fewer, and at the others as many
+pub record Ends (reserved before after : List ℕ) (from : ℕ) : Type 0 where
+  pub last : ℕ
+  pub below : last < length reserved
+  pub counts : (t : ℕ) → atType after t + bit (eqb from (suc t)) ≡ atType before t + bit (eqb last t)
 
 -- it ends with a placing of the same and c; who had no type, or a visited one, is not moved, and nobody comes to a visited type
 pub record Moved (reserved marks visited before after : List ℕ) (c : ℕ) : Type 0 where
   pub placing : Placing reserved marks after
   pub reached : 0 < getD after c 0
+  pub ends : Ends reserved before after (getD before c 0)
   pub kept : (p : ℕ) → 0 < getD before p 0 → 0 < getD after p 0
   pub apart : (p : ℕ) → (p ≡ c → ⊥) → getD before p 0 ≡ 0 → getD after p 0 ≡ 0
   pub stays : (p t : ℕ) → (p ≡ c → ⊥) → 0 < getD visited t 0 → getD before p 0 ≡ suc t → getD after p 0 ≡ suc t

@@ -8,7 +8,7 @@ use lib.ListN.{length, getD}
 use Rattle.round.specs.Lists.{count}
 use Rattle.choice.specs.Use.{Placing}
 use Rattle.choice.specs.Step.{takenForUse}
-use Rattle.choice.specs.Left.{Left}
+use Rattle.choice.specs.Left.{Left, OneTaken}
 use Rattle.choice.specs.Search.{Moved, Stuck}
 
 -- only types without positions are exhausted
@@ -19,10 +19,11 @@ pub record Without (reserved exhausted : List ℕ) : Type 0 where
 abbrev pub AllExhausted : ℕ → List ℕ → Type 0
 AllExhausted types exhausted = (t : ℕ) → t < types → 0 < getD exhausted t 0
 
--- one more is placed and nothing more is exhausted, or it is not, and what the search visited is exhausted
-pub record Attempted (reserved left′ marks exhausted exhausted′ before after : List ℕ) (c : ℕ) (r : Bool) : Type 0 where
+-- one more is placed, for which one position is taken, and nothing more is exhausted, or it is not, and what the search visited is exhausted
+pub record Attempted (reserved left left′ marks exhausted exhausted′ before after : List ℕ) (c : ℕ) (r : Bool) : Type 0 where
   pub positions : Left reserved left′ after
   pub found : r ≡ true → Moved reserved marks exhausted before after c
+  pub one : r ≡ true → getD before c 0 ≡ 0 → OneTaken reserved left left′
   pub spared : r ≡ true → exhausted′ ≡ exhausted
   pub stuck : r ≡ false → Stuck reserved marks exhausted exhausted′ before after c
 

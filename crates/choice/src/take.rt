@@ -65,7 +65,7 @@ pub fn take_one(
     p: usize,
 ) -> bool
     requires { ⌜ Searching (now reserved) (now left) (now marks) (now placed) (now exhausted) p ⌝ }
-    ensures { λ r. ⌜ Attempted (now (reserved .entry)) (now (left .exit)) (now (marks .entry)) (now (exhausted .entry)) (now (exhausted .exit)) (now (placed .entry)) (now (placed .exit)) p r ⌝ }
+    ensures { λ r. ⌜ Attempted (now (reserved .entry)) (now (left .entry)) (now (left .exit)) (now (marks .entry)) (now (exhausted .entry)) (now (exhausted .exit)) (now (placed .entry)) (now (placed .exit)) p r ⌝ }
 {
     let mut visited = [0u8; 8];
     copy(exhausted, &mut visited);

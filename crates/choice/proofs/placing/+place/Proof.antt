@@ -12,7 +12,7 @@ use Rattle.choice.specs.Left.{Left}
 use Rattle.choice.specs.declared.placing.Found.{Found}
 use Rattle.choice.specs.declared.placing.Found.the-variants.{At, Nothing}
 use Rattle.choice.proofs.PositionsLeft.{some-left, left-some, vacating}
-use Rattle.choice.proofs.Visits.{unvisited, Tried, Asked, SearchEnded, ended-by, left-by, Cleared, skip, done, ask, pass, fail, clear, fewer, cleared, finish, settled, unsettled}
+use Rattle.choice.proofs.Visits.{unvisited, Tried, Asked, SearchEnded, ended-by, left-by, Cleared, skip, done, ask, pass, fail, clear, fewer, at-visited, cleared, finish, settled, unsettled}
 use borrow.Fn.Kinds.{In, Out}
 use borrow.Fn.PlainCycle.{Measures, is, falls, and}
 use Rattle.choice.proofs.placing.place.Reads as place
@@ -196,6 +196,8 @@ place-place-requires t c κs =
         types = i .loop2 .inv .4;
         within = omega (arith, placing t k .each, n .next-holder .ensures .within, i .loop2 .inv .0);
         placing = rw (i .loop2 .inv .2) (placing t k);
+        away = at-visited _ _ _ (k .loop .inv .6) (k .loop .inv .4) few (omega arith) (test .before .to-try .ensures) (test .if1 .taken) (i .loop2 .inv .6) _ (i .loop2 .inv .2)
+            (n .next-holder .ensures .holder (c .before .before .before .if3 .taken));
         positions = rw (i .loop2 .inv .2) (i .loop2 .inv .5);
       },
     )
@@ -315,7 +317,8 @@ place-returns-2 t c =
     let known-told : Here place-lts.After-known-told t = search needs in
     let s = searched t known-told in
     let settling : Here place-lts.After-settle t = search needs in
-    settled (start t (s .before) .pre .1 .within) (cleared-at t known-told) (ended t s .1) (settling .settle .ensures .0) (settling .settle .ensures .1)
+    let pre = start t (s .before) .pre .1 in
+    settled (pre .within) (pre .away) (cleared-at t known-told) (ended t s .1) (settling .settle .ensures .0) (settling .settle .ensures .1)
 
 pub +place-spec : {M : Type 1} → statement M
 +place-spec = close μ-place λ t. place-lts.spec (told t)

@@ -14,7 +14,10 @@ slice-aggregate-place : tie.Need-slice-aggregate-place
 slice-aggregate-place c = search needs
 
 place-requires : tie.Need-place-requires
-place-requires c κs = search needs
+place-requires c κs =
+    let start : tie.Start = search needs in
+    let copied : tie.After-copy = search needs in
+    rw (copied .copy .ensures) (start .pre)
 
 slice-aggregate-copy-2 : tie.Need-slice-aggregate-copy-2
 slice-aggregate-copy-2 c = search needs
