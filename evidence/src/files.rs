@@ -55,7 +55,7 @@ impl Made {
     /// How many of the first seeds stand for a shape of their own.
     pub fn fixed(self) -> u64 {
         match self {
-            Made::Worst(_) => 3,
+            Made::Worst(_) => 4,
             Made::Types(_) => 2,
             _ => 0,
         }

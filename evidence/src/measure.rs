@@ -38,6 +38,7 @@ pub fn classes() -> Vec<(String, Made, Vec<u64>)> {
         ("worst, steep".to_string(), Made::Worst(512), vec![0]),
         ("worst, full".to_string(), Made::Worst(512), vec![1]),
         ("worst, chain".to_string(), Made::Worst(512), vec![2]),
+        ("worst, behind".to_string(), Made::Worst(512), vec![3]),
         ("types, apart".to_string(), Made::Types(512), vec![0]),
         ("types, in vain".to_string(), Made::Types(512), vec![1]),
     ]

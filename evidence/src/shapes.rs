@@ -221,31 +221,28 @@ fn two_types(first: usize) -> u8 {
     1 << (first % 8) | 1 << ((first + 1) % 8)
 }
 
-/// A round hard on the placing search: n OBC candidates, a multiple of 16, at one institute whose open and OBC positions are n / 16 for each of 8 types, so that those who find no open one search again; seed 0 gives the steep one, where everybody holds every type and nearly all positions are of type 8, so that a search in the order of types visits all eight and moves a holder of each; 1 the full one, where everybody holds every type; 2 the chain; others mix these two.
+/// A round hard on the placing search: n OBC candidates, a multiple of 16, at one institute whose open and OBC positions are n / 2 each, all reserved for 8 types, so that those who find no open one search again; seed 0 gives the steep one, where everybody holds every type and nearly all positions are of type 8, so that a search in the order of types visits all eight and moves a holder of each; 1 the full one, where everybody holds every type and each has as many positions; 2 the chain; 3 the one behind, where who cannot move stands behind who can; others mix the second and the third.
 pub fn worst(n: usize, seed: u64) -> Round {
     let mut random = Random::new(seed);
-    let each = n / 16;
+    let half = n / 2;
+    let each = half / 8;
     let marks = |place: usize, random: &mut Random| match seed {
         0 | 1 => 255,
         2 => chain_marks(place, each),
+        3 => behind_marks(place % half, half),
         _ => {
             let two = two_types(random.from_to(0, 7));
             random.pick(&[chain_marks(place, each), two, 255])
         }
     };
-    let mut reserved = vec![each; 8];
-    if seed == 0 {
-        reserved = vec![1; 8];
-        reserved[7] = 8 * each - 7;
-    }
+    let reserved = match seed {
+        0 => [vec![1; 7], vec![half - 7]].concat(),
+        3 => behind_reserved(half),
+        _ => vec![each; 8],
+    };
     let mut institute = bare(8);
-    put(
-        &mut institute,
-        usize::from(OPEN),
-        8 * each,
-        reserved.clone(),
-    );
-    put(&mut institute, usize::from(OBC), 8 * each, reserved);
+    put(&mut institute, usize::from(OPEN), half, reserved.clone());
+    put(&mut institute, usize::from(OBC), half, reserved);
     // Merit goes against the numbers, so that everybody is displaced by those who offer later.
     let candidates = (0..n)
         .map(|number| Candidate {
@@ -261,6 +258,30 @@ pub fn worst(n: usize, seed: u64) -> Round {
         candidates,
         merit: vec![(0..n).rev().collect()],
     }
+}
+
+/// The marks at a place of the one behind: a third holds every type and gets type 1, another, of types 2 to 7 alone, fills these, and each of the last third, of type 1 alone, moves one of the first, who tries types 2 to 7 in vain before type 8.
+fn behind_marks(place: usize, places: usize) -> u8 {
+    let third = places / 3;
+    if place < third {
+        255
+    } else if place < places - third {
+        1 << (1 + (place - third) % 6)
+    } else {
+        1
+    }
+}
+
+/// The positions of the one behind: a third each of types 1 and 8, the others of the types between.
+fn behind_reserved(places: usize) -> Vec<usize> {
+    let third = places / 3;
+    let mut reserved = vec![third; 8];
+    for held in 1..7 {
+        reserved[held] = (third..places - third)
+            .filter(|&place| behind_marks(place, places) == 1 << held)
+            .count();
+    }
+    reserved
 }
 
 /// The marks at a merit place of the chain: as many as a type has positions of types 1 and 2, as many of types 2 and 3 and so on to type 8 fill types 1 to 7, half as many of types 8 and 1 half of type 8; then the other half, of type 1 alone, each move one holder of every type, and everybody behind them searches all eight in vain.

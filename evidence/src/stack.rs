@@ -64,7 +64,7 @@ fn files() -> Vec<Vec<u8>> {
     for class in Class::ALL {
         files.extend((1..=5).map(|seed| Made::Lawful(class).file(seed)));
     }
-    files.extend((0..4).map(|seed| Made::Worst(512).file(seed)));
+    files.extend((0..5).map(|seed| Made::Worst(512).file(seed)));
     files.extend((0..3).map(|seed| Made::Types(512).file(seed)));
     files.extend(
         (1..=13).flat_map(|number| (0..5).map(move |seed| Made::Refused(number).file(seed))),
