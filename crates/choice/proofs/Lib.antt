@@ -19,6 +19,7 @@ pub mod Agreement
 pub mod Accounts
 pub mod TypesFirst
 pub mod PositionsLeft
+pub mod Holders
 pub mod Visits
 pub mod Written
 pub mod FrontPlaces

@@ -8,9 +8,9 @@ use native.Mathlib.Omega.{arith}
 use lib.Dec.{eqb, ltb}
 use lib.ListN.{length, getD, set, length-set}
 use lib.Seq.{getD-set-same, getD-set-other, set-set, set-getD}
-use borrow.Author.Tests.{eqb-true, eqb-false, eq-eqb, lt-ltb, le-ltb, ltb-true}
+use borrow.Author.Tests.{eqb-true, eq-eqb, lt-ltb, le-ltb, ltb-true}
 use Rattle.round.specs.Lists.{bit}
-use Rattle.round.proofs.Words.{and-fst, and-no}
+use Rattle.round.proofs.Words.{and-fst}
 use Rattle.choice.specs.Use.{holds, oneLess, Placing}
 use Rattle.choice.specs.Left.{atType, Left, givenBack, Vacating}
 use Rattle.choice.specs.Search.{Searching, Moved, Stuck}
@@ -18,6 +18,7 @@ use Rattle.choice.specs.Taken.{Attempted}
 use Rattle.choice.specs.Lowered.{SameTyped, Sealed, Lowering, Lowered}
 use Rattle.choice.proofs.Counting.{lessOr, sameOr, bit-same, bit-other, count-le}
 use Rattle.choice.proofs.Blocked.{blocked, has-no-other, has-own}
+use Rattle.choice.proofs.Holders.{nothing-more}
 use Rattle.choice.proofs.PositionsLeft.{at-set, vacating, vacated, left-some, moved-to}
 
 -- lists that give types to the same places
@@ -232,19 +233,14 @@ module _ {room left₀ marks₀ before exhausted₀ vacant : List ℕ} (s : Lowe
   pub skipped : {left marks placed exhausted f m l v : List ℕ} {t : ℕ} {b : Bool} → Lowers room marks₀ vacant left marks placed exhausted t
       → b ≡ (holds (getD marks₀ 0 0) t && eqb (getD exhausted t 0) 0) → b ≡ false → f ≡ left → m ≡ marks → l ≡ placed → v ≡ exhausted
       → Lowers room marks₀ vacant f m l v (t + 1)
-  skipped {exhausted = exhausted} {t = t} k test failed ef em el ev = rw (ef, em, el, ev) record {
+  skipped {exhausted = exhausted} k test failed ef em el ev = rw (ef, em, el, ev) record {
     as-marked = k .as-marked;
     as-placed = k .as-placed;
     positions = k .positions;
     types = k .types;
     sealed = k .sealed;
-    tried = λ u l h.
-        sameOr u t (λ same. rw same (seen (and-no _ _ (sym test ∙ failed) (rw same at h))))
-        (λ other. k .tried u (omega arith) h);
+    tried = nothing-more (getD marks₀ 0 0) exhausted (k .tried) test failed;
   }
-    where
-      seen : eqb (getD exhausted t 0) 0 ≡ false → 0 < getD exhausted t 0
-      seen e = lessOr 0 (getD exhausted t 0) (λ l. l) (λ z. absurd (eqb-false (getD exhausted t 0) 0 e (omega arith)))
 
   -- no smaller type can be had: a position of the type that the front place had is left, and it gets it again
   module _ {left marks placed exhausted : List ℕ} {t last : ℕ} (k : Lowers room marks₀ vacant left marks placed exhausted t) (end : last ≡ t) (at : getD before 0 0 ≡ suc last) where
@@ -270,4 +266,4 @@ module _ {room left₀ marks₀ before exhausted₀ vacant : List ℕ} (s : Lowe
         as-before = again ∙ rw (k .as-placed, gone, set-set before 0 0 (suc last), ← at) (set-getD before 0 0)
 
         positions : Left room left′ before
-        positions = rw (← as-before, less, again, k .as-placed) (moved-to vacant-placing (k .positions) 0 last (s .within) below one-left)
+        positions = rw (← as-before, less, again, k .as-placed) (moved-to vacant-placing (k .positions) 0 last (s .within) below)

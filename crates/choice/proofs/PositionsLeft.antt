@@ -15,6 +15,7 @@ use Rattle.choice.specs.Use.{oneLess, Placing}
 use Rattle.choice.specs.Left.{atType, Left, OneTaken, givenBack, Vacating}
 use Rattle.choice.specs.Search.{Ends}
 use Rattle.choice.proofs.Counting.{lessOr, sameOr, bit-same, bit-other}
+use Rattle.choice.proofs.Use.{oneLess-length, oneLess-same, oneLess-other}
 use Rattle.choice.proofs.Tabulate.{getD-zeros}
 use Rattle.choice.proofs.Counts.{count-one, count-rest}
 
@@ -137,39 +138,29 @@ module _ {reserved left marks placed : List ℕ} (k : Placing reserved marks pla
           }
 
   -- who is at c moves to type t
-  pub moved-to : (c t : ℕ) → c < length marks → t < length reserved → atType placed t < getD reserved t 0
+  pub moved-to : (c t : ℕ) → c < length marks → t < length reserved
       → Left reserved (oneLess (givenBack left (getD placed c 0)) t) (set placed c (suc t))
-  moved-to c t inside below room = rw (← set-set placed c 0 (suc t)) (come (vacated c inside) gone)
+  moved-to c t inside below = rw (← set-set placed c 0 (suc t)) record {
+    each = rw (oneLess-length back t) (gone .each);
+    less = λ u b.
+        sameOr u t
+        (λ same. rw same (omega (arith, oneLess-same back t (omega (arith, gone .each)), gone .less t below, comes t, bit-same (suc t) (suc t) refl)))
+        (λ other. omega (arith, oneLess-other back t u other, gone .less u b, comes u, bit-other (suc t) (suc u) (λ z. other (omega arith))));
+  }
     where
+      back : List ℕ
+      back = givenBack left (getD placed c 0)
+
+      gone : Left reserved back (set placed c 0)
+      gone = vacated c inside
+
       there : c < length placed
       there = rw (k .each) inside
 
-      gone : 0 < getD (givenBack left (getD placed c 0)) t 0
-      gone = left-some (vacated c inside) t below (omega (arith, at-set placed c 0 t there, bit-other 0 (suc t) (λ z. omega arith)))
-
-      come : {now : List ℕ} → Left reserved now (set placed c 0) → 0 < getD now t 0 → Left reserved (oneLess now t) (set (set placed c 0) c (suc t))
-      come {now} m some = unfold oneLess in record {
-        each = rw (length-set now t (getD now t 0 - 1)) (m .each);
-        less = λ u b.
-            sameOr u t
-            (λ same.
-            rw same
-            (omega (
-              arith,
-              getD-set-same now t (getD now t 0 - 1) 0 (omega (arith, m .each)),
-              m .less t below,
-              here t,
-              bit-same (suc t) (suc t) refl,
-            )))
-            (λ other.
-            omega
-            (arith, getD-set-other now t u (getD now t 0 - 1) 0 other, m .less u b, here u, bit-other (suc t) (suc u) (λ z. other (omega arith))));
-      }
-        where
-          here : (u : ℕ) → atType (set (set placed c 0) c (suc t)) u ≡ atType (set placed c 0) u + bit (eqb (suc t) (suc u))
-          here u =
-              omega (
-                arith,
-                at-set (set placed c 0) c (suc t) u (rw (length-set placed c 0) there),
-                bit-other (getD (set placed c 0) c 0) (suc u) (λ z. omega (arith, getD-set-same placed c 0 0 there)),
-              )
+      comes : (u : ℕ) → atType (set (set placed c 0) c (suc t)) u ≡ atType (set placed c 0) u + bit (eqb (suc t) (suc u))
+      comes u =
+          omega (
+            arith,
+            at-set (set placed c 0) c (suc t) u (rw (length-set placed c 0) there),
+            bit-other (getD (set placed c 0) c 0) (suc u) (λ z. omega (arith, getD-set-same placed c 0 0 there)),
+          )

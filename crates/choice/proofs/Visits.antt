@@ -7,15 +7,16 @@ use native.Mathlib.Omega.{arith}
 use lib.Dec.{eqb}
 use lib.ListN.{length, getD, set, length-set, List·getD-eq-default}
 use lib.Seq.{getD-set-same, getD-set-other}
-use borrow.Author.Tests.{eqb-true, eqb-false, eq-eqb, ne-eqb}
+use borrow.Author.Tests.{eqb-true, eq-eqb, ne-eqb}
 use Rattle.round.specs.Lists.{bit, count}
-use Rattle.round.proofs.Words.{and-fst, and-snd, and-no}
+use Rattle.round.proofs.Words.{and-fst, and-snd}
 use Rattle.choice.specs.declared.placing.Found.{Found}
 use Rattle.choice.specs.declared.placing.Found.the-variants.{At, Nothing}
 use Rattle.choice.specs.Use.{holds, oneLess, Placing}
 use Rattle.choice.specs.Left.{atType, Left, givenBack}
-use Rattle.choice.specs.Search.{NothingToTry, Sought, Ends, Moved, Stuck, Searched}
+use Rattle.choice.specs.Search.{Sought, Ends, Moved, Stuck, Searched}
 use Rattle.choice.proofs.Counting.{lessOr, sameOr, bit-true, bit-false, bit-suc, count-less}
+use Rattle.choice.proofs.Holders.{nothing-more}
 use Rattle.choice.proofs.PositionsLeft.{at-set, moved-to}
 
 -- the types visited since: each is full, and who is placed at one holds visited types only
@@ -72,50 +73,6 @@ tried-test : (m t v : ℕ) {r : Bool} → r ≡ (holds m t && eqb v 0) → r ≡
 tried-test m t v e y =
     (and-fst (holds m t) (eqb v 0) (sym e ∙ y), eqb-true v 0 (and-snd (holds m t) (eqb v 0) (sym e ∙ y)))
 
--- one more type is not among the marks, or visited
-pub nothing-more : (m : ℕ) (visited : List ℕ) {t : ℕ} {r : Bool} → ((u : ℕ) → u < t → holds m u ≡ true → 0 < getD visited u 0)
-    → r ≡ (holds m t && eqb (getD visited t 0) 0) → r ≡ false → (u : ℕ) → u < t + 1 → holds m u ≡ true → 0 < getD visited u 0
-nothing-more m visited {t} below test none u l held =
-    sameOr u t (λ e. rw e (seen (and-no (holds m t) (eqb (getD visited t 0) 0) (sym test ∙ none) (rw e at held)))) (λ n. below u (omega arith) held)
-  where
-    seen : eqb (getD visited t 0) 0 ≡ false → 0 < getD visited t 0
-    seen e = lessOr 0 (getD visited t 0) (λ l. l) (λ z. absurd (eqb-false (getD visited t 0) 0 e (omega arith)))
-
--- for those from place h up to the end who are placed at type t, there is nothing to try
-pub record PassedOver (marks placed visited : List ℕ) (t end h : ℕ) : Type 0 where
-  pub over : (p : ℕ) → h ≤ p → p < end → getD placed p 0 ≡ suc t → NothingToTry (getD marks p 0) visited
-
-module _ (marks placed visited : List ℕ) (t end : ℕ) where
-  pub none-passed : {h : ℕ} → end ≤ h → PassedOver marks placed visited t end h
-  none-passed all = record { over = λ p l b. absurd (omega arith) }
-
-  -- the one above place h is at another type, or has nothing to try
-  pub passed-other : {h g i byte : ℕ} → PassedOver marks placed visited t end h → suc g ≡ h → i ≡ g → byte ≡ getD placed g 0 → (byte ≡ t + 1 → ⊥)
-      → PassedOver marks placed visited t end i
-  passed-other {h} {g} k next at reads other = rw at record {
-    over = λ p l b e. sameOr p g (λ q. absurd (other (omega (arith, rw q at e)))) (λ q. k .over p (omega arith) b e);
-  }
-
-  pub passed-spent : {h g i : ℕ} → PassedOver marks placed visited t end h → suc g ≡ h → i ≡ g → NothingToTry (getD marks g 0) visited
-      → PassedOver marks placed visited t end i
-  passed-spent {h} {g} k next at spent = rw at record { over = λ p l b e. sameOr p g (λ q. rw q spent) (λ q. k .over p (omega arith) b e) }
-
-  -- it is placed at type t and may have something to try
-  pub sought : {h g r byte : ℕ} → PassedOver marks placed visited t end h → suc g ≡ h → h ≤ end → byte ≡ getD placed g 0 → byte ≡ t + 1 → r ≡ suc g
-      → Sought marks placed visited t end r
-  sought {h} {g} k next inside reads at e =
-      let at-type : getD placed g 0 ≡ suc t = omega arith in
-      let one-less : suc g - 1 ≡ g = omega arith in
-      rw e record {
-        within = omega arith;
-        holder = λ l. ap (λ (i : ℕ). getD placed i 0) one-less ∙ at-type;
-        passed = λ p l b. k .over p (omega arith) b;
-      }
-
-  -- there is nobody
-  pub sought-none : {h : ℕ} → PassedOver marks placed visited t end h → h ≡ 0 → Sought marks placed visited t end 0
-  sought-none k e = record { within = omega arith; holder = λ l. absurd (omega arith); passed = λ p l b. k .over p (omega arith) b }
-
 module _ (reserved marks placed : List ℕ) where
   -- more types are visited, and then more again
   join : (v v₁ v₂ : List ℕ) → Grown reserved marks placed v v₁ → Grown reserved marks placed v₁ v₂ → Grown reserved marks placed v v₂
@@ -129,18 +86,7 @@ module _ (reserved marks placed : List ℕ) where
   -- c does not hold type t, or it is visited
   pub skip : {visited₀ visited l v : List ℕ} {c t : ℕ} {r : Bool} → Tried reserved marks placed visited₀ visited c t
       → r ≡ (holds (getD marks c 0) t && eqb (getD visited t 0) 0) → r ≡ false → l ≡ placed → v ≡ visited → Tried reserved marks l visited₀ v c (t + 1)
-  skip {visited = visited} {c = c} {t = t} k test none el ev = rw (el, ev) record {
-    grown = k .grown;
-    own = λ u l held.
-        sameOr u t (λ e. rw e (seen (second (holds (getD marks c 0) t) _ (rw e at held) (sym test ∙ none)))) (λ n. k .own u (omega arith) held);
-  }
-    where
-      second : (a b : Bool) → a ≡ true → (a && b) ≡ false → b ≡ false
-      second true b e n = n
-      second false b e n = cc
-
-      seen : eqb (getD visited t 0) 0 ≡ false → 0 < getD visited t 0
-      seen e = lessOr 0 (getD visited t 0) (λ l. l) (λ z. absurd (eqb-false (getD visited t 0) 0 e (omega arith)))
+  skip {visited = visited} {c = c} k test none el ev = rw (el, ev) record { grown = k .grown; own = nothing-more (getD marks c 0) visited (k .own) test none }
 
   -- every type was tried
   pub done : {visited₀ visited : List ℕ} {c t : ℕ} → Tried reserved marks placed visited₀ visited c t → length reserved ≤ t
@@ -379,7 +325,7 @@ pub settled : {reserved left marks visited visited′ before after l p : List �
     → ((u : ℕ) → getD before c 0 ≡ suc u → 0 < getD visited u 0) → Cleared reserved marks visited before after c t → Left reserved left after → l ≡ oneLess (givenBack left (getD after c 0)) t → p ≡ set after c (suc t)
     → Searched reserved l marks visited visited′ before p c true
 settled {reserved} {marks = marks} {visited} {before = before} {after} {c = c} {t} inside away k positions el ep = rw (el, ep) record {
-  positions = moved-to (k .placing) positions c t inside (k .below) (k .room);
+  positions = moved-to (k .placing) positions c t inside (k .below);
   found = λ e. settle reserved marks visited before after c t inside away k;
   stuck = λ e. absurd (never e);
 }

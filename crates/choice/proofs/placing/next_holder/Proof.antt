@@ -2,7 +2,7 @@
 use Prim.Native.Nat.{_-_, _≤_}
 use mathlib.Core.Logic.{⊎-elim}
 use native.Mathlib.Omega.{arith}
-use Rattle.choice.proofs.Visits.{PassedOver, none-passed, passed-other, passed-spent, sought, sought-none}
+use Rattle.choice.proofs.Holders.{PassedOver, none-passed, passed-other, passed-spent, sought, sought-none}
 use borrow.Author.Needs.{needs}
 use Rattle.choice.proofs.placing.next_holder.Statement.{statement}
 use Rattle.choice.proofs.placing.next_holder.Tie as tie

@@ -5,7 +5,7 @@ use mathlib.Core.Bool.{true}
 use native.Mathlib.Omega.{arith}
 use lib.ListN.{getD}
 use Rattle.choice.specs.Use.{holds}
-use Rattle.choice.proofs.Visits.{nothing-more}
+use Rattle.choice.proofs.Holders.{nothing-more}
 use borrow.Author.Needs.{needs}
 use Rattle.choice.proofs.placing.some_to_try.Statement.{statement}
 use Rattle.choice.proofs.placing.some_to_try.Tie as tie
