@@ -44,7 +44,7 @@ pub attempted-found : (reserved marks : List ℕ) {left left′ v e v′ b a : L
 attempted-found reserved marks {left} {left′} {v} {e} {v′} {b} {a} c s same r positions = record {
   positions = s .positions;
   found = λ t. subst (λ (l : List ℕ). Moved reserved marks l b a c) same (s .found r);
-  one = λ t. one-taken c (s .found r .placing) positions (s .positions) (s .found r .ends);
+  one = λ t. one-taken c positions (s .positions) (s .found r .ends);
   spared = λ t. refl;
   stuck = λ f. absurd (never f);
 }

@@ -31,7 +31,7 @@ module _ (l m : List ℕ) (same : (q : ℕ) → getD l q 0 ≡ getD m q 0) where
   as-many-at t = omega (arith, no-more l m same t, no-more m l (λ q. sym (same q)) t)
 
   left-alike : {reserved left : List ℕ} → Left reserved left l → Left reserved left m
-  left-alike k = record { each = k .each; less = λ t b. omega (arith, k .less t b, as-many-at t) }
+  left-alike k = record { each = k .each; value = λ t b. omega (arith, k .value t b, as-many-at t) }
 
   placing-alike : {reserved marks marks′ : List ℕ} → Placing reserved marks l → length m ≡ length marks′
       → ((q t : ℕ) → getD l q 0 ≡ suc t → (q < length marks) × (getD marks q 0 ≡ getD marks′ q 0)) → Placing reserved marks′ m

@@ -6,11 +6,16 @@ use mathlib.Core.List.{List}
 use native.Mathlib.Omega.{arith}
 use lib.Dec.{eqb}
 use lib.ListN.{getD}
-use borrow.Author.Tests.{eqb-false}
-use Rattle.round.proofs.Words.{and-no}
+use borrow.Author.Tests.{eqb-true, eqb-false}
+use Rattle.round.proofs.Words.{and-fst, and-snd, and-no}
 use Rattle.choice.specs.Use.{holds}
-use Rattle.choice.specs.Search.{NothingToTry, Sought}
+use Rattle.choice.specs.Search.{NothingToTry, SomeToTry, Sought}
 use Rattle.choice.proofs.Counting.{lessOr, sameOr}
+
+-- the test of a type that is tried
+pub tried-test : (m t v : ℕ) {r : Bool} → r ≡ (holds m t && eqb v 0) → r ≡ true → (holds m t ≡ true) × (v ≡ 0)
+tried-test m t v e y =
+    (and-fst (holds m t) (eqb v 0) (sym e ∙ y), eqb-true v 0 (and-snd (holds m t) (eqb v 0) (sym e ∙ y)))
 
 -- one more type is not among the marks, or visited
 pub nothing-more : (m : ℕ) (visited : List ℕ) {t : ℕ} {r : Bool} → ((u : ℕ) → u < t → holds m u ≡ true → 0 < getD visited u 0)
@@ -20,6 +25,10 @@ nothing-more m visited {t} below test none u l held =
   where
     seen : eqb (getD visited t 0) 0 ≡ false → 0 < getD visited t 0
     seen e = lessOr 0 (getD visited t 0) (λ l. l) (λ z. absurd (eqb-false (getD visited t 0) 0 e (omega arith)))
+
+-- one type is
+pub one-to-try : (m : ℕ) (visited : List ℕ) {t : ℕ} {r : Bool} → t < 8 → r ≡ (holds m t && eqb (getD visited t 0) 0) → r ≡ true → SomeToTry m visited
+one-to-try m visited {t} below test tries = let (held, unseen) = tried-test m t (getD visited t 0) test tries in (t, below, held, unseen)
 
 -- for those from place h up to the end who are placed at type t, there is nothing to try
 pub record PassedOver (marks placed visited : List ℕ) (t end h : ℕ) : Type 0 where
@@ -40,18 +49,19 @@ module _ (marks placed visited : List ℕ) (t end : ℕ) where
       → PassedOver marks placed visited t end i
   passed-spent {h} {g} k next at spent = rw at record { over = λ p l b e. sameOr p g (λ q. rw q spent) (λ q. k .over p (omega arith) b e) }
 
-  -- it is placed at type t and may have something to try
-  pub sought : {h g r byte : ℕ} → PassedOver marks placed visited t end h → suc g ≡ h → h ≤ end → byte ≡ getD placed g 0 → byte ≡ t + 1 → r ≡ suc g
-      → Sought marks placed visited t end r
-  sought {h} {g} k next inside reads at e =
+  -- it is placed at type t and has something to try
+  pub sought : {h g r byte : ℕ} → PassedOver marks placed visited t end h → suc g ≡ h → h ≤ end → byte ≡ getD placed g 0 → byte ≡ t + 1
+      → SomeToTry (getD marks g 0) visited → r ≡ suc g → Sought marks placed visited t end r
+  sought {h} {g} k next inside reads at some e =
       let at-type : getD placed g 0 ≡ suc t = omega arith in
       let one-less : suc g - 1 ≡ g = omega arith in
       rw e record {
         within = omega arith;
         holder = λ l. ap (λ (i : ℕ). getD placed i 0) one-less ∙ at-type;
+        able = λ l. rw one-less some;
         passed = λ p l b. k .over p (omega arith) b;
       }
 
   -- there is nobody
   pub sought-none : {h : ℕ} → PassedOver marks placed visited t end h → h ≡ 0 → Sought marks placed visited t end 0
-  sought-none k e = record { within = omega arith; holder = λ l. absurd (omega arith); passed = λ p l b. k .over p (omega arith) b }
+  sought-none k e = record { within = omega arith; holder = λ l. absurd (omega arith); able = λ l. absurd (omega arith); passed = λ p l b. k .over p (omega arith) b }

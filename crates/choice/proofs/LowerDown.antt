@@ -143,8 +143,8 @@ module _ (reserved marks before : List ℕ) where
       new-positions : Left reserved left′ after
       new-positions = record {
         each = omega (arith, of-own .positions .each, k .as-many);
-        less = λ t l.
-            omega (arith, of-own .positions .less t (omega (arith, k .as-many)), k .counted t l, count-above t, from-count after p t (omega (arith, new-each)));
+        value = λ t l.
+            omega (arith, of-own .positions .value t (omega (arith, k .as-many)), k .counted t l, count-above t, from-count after p t (omega (arith, new-each)));
       }
 
       new-same : SameTyped after before

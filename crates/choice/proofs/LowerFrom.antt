@@ -84,7 +84,7 @@ pub left-from : {reserved room left : List ℕ} (l : List ℕ) (p : ℕ) → len
     → ((t : ℕ) → t < length reserved → getD room t 0 + count p (λ q. eqb (getD l q 0) (suc t)) ≡ getD reserved t 0) → Left reserved left l → Left room left (drop p l)
 left-from l p sizes inside counted h = record {
   each = omega (arith, h .each);
-  less = λ t b. omega (arith, h .less t (omega arith), counted t (omega arith), from-count l p t inside);
+  value = λ t b. omega (arith, h .value t (omega arith), counted t (omega arith), from-count l p t inside);
 }
 
 -- without the front place, those at a type are those from place 1 on

@@ -266,4 +266,4 @@ module _ {room left₀ marks₀ before exhausted₀ vacant : List ℕ} (s : Lowe
         as-before = again ∙ rw (k .as-placed, gone, set-set before 0 0 (suc last), ← at) (set-getD before 0 0)
 
         positions : Left room left′ before
-        positions = rw (← as-before, less, again, k .as-placed) (moved-to vacant-placing (k .positions) 0 last (s .within) below)
+        positions = rw (← as-before, less, again, k .as-placed) (moved-to vacant-placing (k .positions) 0 last (s .within) below one-left)

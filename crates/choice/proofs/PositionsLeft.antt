@@ -58,21 +58,21 @@ pub come-to : (now placed : List ℕ) (c t : ℕ) → now ≡ set placed c 0 →
 come-to now placed c t e = rw (e, add-one) (set-set placed c 0 (suc t))
 
 -- a type has a position left just where fewer are placed there than it has positions
-pub some-left : {reserved left marks placed : List ℕ} → Placing reserved marks placed → Left reserved left placed → (t : ℕ) → t < length reserved
+pub some-left : {reserved left placed : List ℕ} → Left reserved left placed → (t : ℕ) → t < length reserved
     → 0 < getD left t 0 → atType placed t < getD reserved t 0
-some-left k l t b some = omega (arith, l .less t b, k .within t b)
+some-left l t b some = omega (arith, l .value t b)
 
 pub left-some : {reserved left placed : List ℕ} → Left reserved left placed → (t : ℕ) → t < length reserved
     → atType placed t < getD reserved t 0 → 0 < getD left t 0
-left-some l t b room = omega (arith, l .less t b)
+left-some l t b room = omega (arith, l .value t b)
 
 -- one more is placed, and moves end at one type: one position of it is taken
-pub one-taken : {reserved left left′ marks before after : List ℕ} (c : ℕ) → Placing reserved marks after → Left reserved left before → Left reserved left′ after
+pub one-taken : {reserved left left′ before after : List ℕ} (c : ℕ) → Left reserved left before → Left reserved left′ after
     → Ends reserved before after (getD before c 0) → getD before c 0 ≡ 0 → OneTaken reserved left left′
-one-taken {before = before} c k l l′ e none = record {
+one-taken {before = before} c l l′ e none = record {
   type = e .last;
   below = e .below;
-  taken = λ t b. omega (arith, l .less t b, l′ .less t b, k .within t b, e .counts t, bit-other (getD before c 0) (suc t) (λ s. omega arith));
+  taken = λ t b. omega (arith, l .value t b, l′ .value t b, e .counts t, bit-other (getD before c 0) (suc t) (λ s. omega arith));
 }
 
 -- nobody is placed
@@ -80,7 +80,7 @@ pub nobody-placed : (reserved left placed : List ℕ) (n : ℕ) → length reser
     → Left reserved left placed
 nobody-placed reserved left placed n each whole none = record {
   each = each;
-  less = λ t l.
+  value = λ t l.
       omega (
         arith,
         sym (getD-take (length reserved) left t 0 l) ∙ ap (λ (x : List ℕ). getD x t 0) whole,
@@ -93,7 +93,7 @@ module _ {reserved left marks placed : List ℕ} (k : Placing reserved marks pla
   pub vacating : (c : ℕ) → c < length marks → ((t : ℕ) → getD reserved t 0 < 2 ^ 64) → Vacating left placed c
   vacating c inside fits = record {
     within = rw (k .each) inside;
-    counted = λ t e. (omega (arith, below t e, l .each), omega (arith, l .less t (below t e), someone t e, k .within t (below t e), fits t));
+    counted = λ t e. (omega (arith, below t e, l .each), omega (arith, l .value t (below t e), someone t e, fits t));
   }
     where
       below : (t : ℕ) → getD placed c 0 ≡ suc t → t < length reserved
@@ -114,38 +114,37 @@ module _ {reserved left marks placed : List ℕ} (k : Placing reserved marks pla
       as-before x t e other = omega (arith, at-set placed c 0 t there, bit-other _ (suc t) (λ z. other (sym e ∙ z)), bit-other 0 (suc t) (λ z. omega arith))
 
       go : (x : ℕ) → getD placed c 0 ≡ x → Left reserved (givenBack left x) (set placed c 0)
-      go zero e = record { each = l .each; less = λ t b. omega (arith, l .less t b, as-before 0 t e (λ z. omega arith)) }
+      go zero e = record { each = l .each; value = λ t b. omega (arith, l .value t b, as-before 0 t e (λ z. omega arith)) }
       go (suc s) e =
           let below = k .held c s inside e .0 in
           record {
             each = rw (length-set left s (getD left s 0 + 1)) (l .each);
-            less = λ t b.
+            value = λ t b.
                 sameOr t s
                 (λ same.
                 rw same
                 (omega (
                   arith,
                   getD-set-same left s (getD left s 0 + 1) 0 (omega (arith, l .each)),
-                  l .less s below,
-                  k .within s below,
+                  l .value s below,
                   at-set placed c 0 s there,
                   bit-same _ _ e,
                   bit-other 0 (suc s) (λ z. omega arith),
                 )))
                 (λ other.
                 omega
-                (arith, getD-set-other left s t (getD left s 0 + 1) 0 other, l .less t b, as-before (suc s) t e (λ z. other (omega arith))));
+                (arith, getD-set-other left s t (getD left s 0 + 1) 0 other, l .value t b, as-before (suc s) t e (λ z. other (omega arith))));
           }
 
   -- who is at c moves to type t
-  pub moved-to : (c t : ℕ) → c < length marks → t < length reserved
+  pub moved-to : (c t : ℕ) → c < length marks → t < length reserved → atType placed t < getD reserved t 0
       → Left reserved (oneLess (givenBack left (getD placed c 0)) t) (set placed c (suc t))
-  moved-to c t inside below = rw (← set-set placed c 0 (suc t)) record {
+  moved-to c t inside below room = rw (← set-set placed c 0 (suc t)) record {
     each = rw (oneLess-length back t) (gone .each);
-    less = λ u b.
+    value = λ u b.
         sameOr u t
-        (λ same. rw same (omega (arith, oneLess-same back t (omega (arith, gone .each)), gone .less t below, comes t, bit-same (suc t) (suc t) refl)))
-        (λ other. omega (arith, oneLess-other back t u other, gone .less u b, comes u, bit-other (suc t) (suc u) (λ z. other (omega arith))));
+        (λ same. rw same (omega (arith, oneLess-same back t (omega (arith, gone .each)), gone .value t below, comes t, fewer, bit-same (suc t) (suc t) refl)))
+        (λ other. omega (arith, oneLess-other back t u other, gone .value u b, comes u, bit-other (suc t) (suc u) (λ z. other (omega arith))));
   }
     where
       back : List ℕ
@@ -156,6 +155,9 @@ module _ {reserved left marks placed : List ℕ} (k : Placing reserved marks pla
 
       there : c < length placed
       there = rw (k .each) inside
+
+      fewer : atType (set placed c 0) t ≤ atType placed t
+      fewer = omega (arith, at-set placed c 0 t there, bit-other 0 (suc t) (λ z. omega arith))
 
       comes : (u : ℕ) → atType (set (set placed c 0) c (suc t)) u ≡ atType (set placed c 0) u + bit (eqb (suc t) (suc u))
       comes u =

@@ -9,14 +9,13 @@ use lib.ListN.{length, getD, set, length-set, List·getD-eq-default}
 use lib.Seq.{getD-set-same, getD-set-other}
 use borrow.Author.Tests.{eqb-true, eq-eqb, ne-eqb}
 use Rattle.round.specs.Lists.{bit, count}
-use Rattle.round.proofs.Words.{and-fst, and-snd}
 use Rattle.choice.specs.declared.placing.Found.{Found}
 use Rattle.choice.specs.declared.placing.Found.the-variants.{At, Nothing}
 use Rattle.choice.specs.Use.{holds, oneLess, Placing}
 use Rattle.choice.specs.Left.{atType, Left, givenBack}
 use Rattle.choice.specs.Search.{Sought, Ends, Moved, Stuck, Searched}
 use Rattle.choice.proofs.Counting.{lessOr, sameOr, bit-true, bit-false, bit-suc, count-less}
-use Rattle.choice.proofs.Holders.{nothing-more}
+use Rattle.choice.proofs.Holders.{tried-test, nothing-more}
 use Rattle.choice.proofs.PositionsLeft.{at-set, moved-to}
 
 -- the types visited since: each is full, and who is placed at one holds visited types only
@@ -67,11 +66,6 @@ left-by el ep x = rw (el, ep) x
 -- how many types are not visited
 abbrev pub unvisited : List ℕ → ℕ
 unvisited visited = count (length visited) (λ t. eqb (getD visited t 0) 0)
-
--- the test of a type that is tried
-tried-test : (m t v : ℕ) {r : Bool} → r ≡ (holds m t && eqb v 0) → r ≡ true → (holds m t ≡ true) × (v ≡ 0)
-tried-test m t v e y =
-    (and-fst (holds m t) (eqb v 0) (sym e ∙ y), eqb-true v 0 (and-snd (holds m t) (eqb v 0) (sym e ∙ y)))
 
 module _ (reserved marks placed : List ℕ) where
   -- more types are visited, and then more again
@@ -247,7 +241,7 @@ module _ (reserved marks placed : List ℕ) where
         grown = record {
           more = λ u v. since u (k .grown .more u v);
           full = λ u v z.
-              sameOr u t (λ q. rw q (omega (arith, positions .less t below)))
+              sameOr u t (λ q. rw q (omega (arith, positions .value t below)))
               (λ n. lessOr 0 (getD visited u 0) (λ l. k .grown .full u l z) (λ l. a .grown .full u v (not-marked u n (omega arith))));
           closed = λ p u w v z e l o.
               sameOr u t (λ q. a .asked p w (omega arith) (rw q at e) l o)
@@ -325,7 +319,7 @@ pub settled : {reserved left marks visited visited′ before after l p : List �
     → ((u : ℕ) → getD before c 0 ≡ suc u → 0 < getD visited u 0) → Cleared reserved marks visited before after c t → Left reserved left after → l ≡ oneLess (givenBack left (getD after c 0)) t → p ≡ set after c (suc t)
     → Searched reserved l marks visited visited′ before p c true
 settled {reserved} {marks = marks} {visited} {before = before} {after} {c = c} {t} inside away k positions el ep = rw (el, ep) record {
-  positions = moved-to (k .placing) positions c t inside (k .below);
+  positions = moved-to (k .placing) positions c t inside (k .below) (k .room);
   found = λ e. settle reserved marks visited before after c t inside away k;
   stuck = λ e. absurd (never e);
 }

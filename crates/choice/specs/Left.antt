@@ -1,6 +1,6 @@
 -- The positions left of each type while a step is filled (document 02, Point 4).
--- placed has at each place a type, from 1, or 0; left has at each type, from 0, the value that goes along.
-use Prim.Native.Nat.{ℕ, zero, suc, _+_, _-_, _^_, _≤_, _<_}
+-- placed has at each place a type, from 1, or 0; left has at each type, from 0, the positions left, carried along.
+use Prim.Native.Nat.{ℕ, zero, suc, _+_, _^_, _≤_, _<_}
 use mathlib.Core.Path.{_≡_}
 use mathlib.Core.List.{List}
 use lib.Dec.{eqb}
@@ -11,18 +11,18 @@ use Rattle.round.specs.Lists.{bit, count}
 abbrev pub atType : List ℕ → ℕ → ℕ
 atType placed t = count (length placed) (λ p. eqb (getD placed p 0) (suc t))
 
--- the value of each type equals the type's positions less those placed there
+-- the value of each type equals the type's positions less those placed there, who are no more than these: the two make up the positions
 pub record Left (reserved left placed : List ℕ) : Type 0 where
   pub each : length reserved ≤ length left
-  pub less : (t : ℕ) → t < length reserved → getD left t 0 ≡ getD reserved t 0 - atType placed t
+  pub value : (t : ℕ) → t < length reserved → getD left t 0 + atType placed t ≡ getD reserved t 0
 
--- one position is taken, of one type and of no other
+-- one position is taken, of one type, from 0, and of no other
 pub record OneTaken (reserved left left′ : List ℕ) : Type 0 where
   pub type : ℕ
   pub below : type < length reserved
   pub taken : (t : ℕ) → t < length reserved → getD left′ t 0 + bit (eqb type t) ≡ getD left t 0
 
--- the values with a position of a type, from 1, given back, or none for 0
+-- the values after a position of a type, from 1, is given back; 0 is for none
 abbrev pub givenBack : List ℕ → ℕ → List ℕ
 givenBack left zero = left
 givenBack left (suc t) = set left t (getD left t 0 + 1)

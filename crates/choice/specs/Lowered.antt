@@ -58,7 +58,7 @@ pub record LoweringFrom (room left marks placed exhausted : List ℕ) (p : ℕ) 
   pub types : length exhausted ≡ 8
   pub sealed : Sealed room (drop p marks) (drop p placed) exhausted
 
--- the places before p are as they were, the others are lowered, and one position of p's type is gone
+-- the places before p are as they were, the others are lowered, and one position of p's type is gone from room
 pub record LoweredFrom (room room′ left′ marks marks′ before after exhausted : List ℕ) (p : ℕ) : Type 0 where
   pub above : (q : ℕ) → q < p → getD after q 0 ≡ getD before q 0
   pub lowered : Lowered room left′ (drop p marks) (drop p marks′) (drop p before) (drop p after) exhausted

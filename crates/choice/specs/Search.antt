@@ -14,10 +14,15 @@ use Rattle.choice.specs.Left.{atType, Left}
 abbrev pub NothingToTry : ℕ → List ℕ → Type 0
 NothingToTry marks visited = (u : ℕ) → u < 8 → holds marks u ≡ true → 0 < getD visited u 0
 
--- the one before r is placed at type t, where r is not 0; for those from r up to the end who are, there is nothing to try
+-- .. or there is one more to try
+abbrev pub SomeToTry : ℕ → List ℕ → Type 0
+SomeToTry marks visited = (u : ℕ) × (u < 8) × (holds marks u ≡ true) × (getD visited u 0 ≡ 0)
+
+-- if r is not 0, the one at place r - 1 is placed at type t and has something to try; who is placed there from r up to the end has nothing
 pub record Sought (marks placed visited : List ℕ) (t end r : ℕ) : Type 0 where
   pub within : r ≤ end
   pub holder : 0 < r → getD placed (r - 1) 0 ≡ suc t
+  pub able : 0 < r → SomeToTry (getD marks (r - 1) 0) visited
   pub passed : (p : ℕ) → r ≤ p → p < end → getD placed p 0 ≡ suc t → NothingToTry (getD marks p 0) visited
 
 -- what a search for the one at place c starts from: c has no type, or a visited one
@@ -29,13 +34,15 @@ pub record Searching (reserved left marks placed visited : List ℕ) (c : ℕ) :
   pub away : (t : ℕ) → getD placed c 0 ≡ suc t → 0 < getD visited t 0
   pub positions : Left reserved left placed
 
--- moves from a type, from 1, or from none, 0, end at one type: there is one more, at the first one fewer, and at the others as many
+-- a chain of moves that starts at a type, from 1, 0 for none, ends at one type: one more is placed there, one fewer at the start, elsewhere
+-- as many
 pub record Ends (reserved before after : List ℕ) (from : ℕ) : Type 0 where
   pub last : ℕ
   pub below : last < length reserved
   pub counts : (t : ℕ) → atType after t + bit (eqb from (suc t)) ≡ atType before t + bit (eqb last t)
 
--- it ends with a placing of the same and c; who had no type, or a visited one, is not moved, and nobody comes to a visited type
+-- it ends with a placing of the same and c, by moves that end at one type; nobody but c who had no type, or a visited one, is moved, and
+-- nobody comes to a visited type
 pub record Moved (reserved marks visited before after : List ℕ) (c : ℕ) : Type 0 where
   pub placing : Placing reserved marks after
   pub reached : 0 < getD after c 0
@@ -45,7 +52,7 @@ pub record Moved (reserved marks visited before after : List ℕ) (c : ℕ) : Ty
   pub stays : (p t : ℕ) → (p ≡ c → ⊥) → 0 < getD visited t 0 → getD before p 0 ≡ suc t → getD after p 0 ≡ suc t
   pub comes : (p t : ℕ) → 0 < getD visited t 0 → getD after p 0 ≡ suc t → (getD before p 0 ≡ suc t) × (p ≡ c → ⊥)
 
--- the types that this search visits: each is full, and who is placed at one, as c, holds visited types only
+-- the types that this search visits: each is full, and who is placed at one holds visited types only, and so does c
 pub record Stuck (reserved marks visited visited′ before after : List ℕ) (c : ℕ) : Type 0 where
   pub same : after ≡ before
   pub more : (t : ℕ) → 0 < getD visited t 0 → 0 < getD visited′ t 0

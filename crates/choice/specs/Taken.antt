@@ -19,7 +19,8 @@ pub record Without (reserved exhausted : List ℕ) : Type 0 where
 abbrev pub AllExhausted : ℕ → List ℕ → Type 0
 AllExhausted types exhausted = (t : ℕ) → t < types → 0 < getD exhausted t 0
 
--- one more is placed, for which one position is taken, and nothing more is exhausted, or it is not, and what the search visited is exhausted
+-- c is placed, for which one position is taken where it had no type, and nothing more is exhausted; or nobody is placed, and what the search
+-- visited is exhausted
 pub record Attempted (reserved left left′ marks exhausted exhausted′ before after : List ℕ) (c : ℕ) (r : Bool) : Type 0 where
   pub positions : Left reserved left′ after
   pub found : r ≡ true → Moved reserved marks exhausted before after c

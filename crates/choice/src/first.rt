@@ -84,7 +84,7 @@ fn lower_at(
 fn lower_all(reserved: &[usize], left: &mut [usize], marks: &[u8], placed: &mut [u8])
     requires { ⌜ (length (now reserved) ≤ 8) × (length (now marks) ≤ 512) ⌝ }
     requires { ⌜ Placing (now reserved) (now marks) (now placed) × Left (now reserved) (now left) (now placed) ⌝ }
-    ensures { λ _. ⌜ PlacedFirst true (now (reserved .entry)) (now (marks .entry)) (now (placed .entry)) (now (placed .exit)) ⌝ }
+    ensures { λ _. ⌜ PlacedFirst true (now (reserved .entry)) (now (marks .entry)) (now (placed .entry)) (now (placed .exit)) × Left (now (reserved .entry)) (now (left .exit)) (now (placed .exit)) ⌝ }
 {
     let types = reserved.len();
     let n = marks.len();
@@ -110,7 +110,7 @@ fn lower_all(reserved: &[usize], left: &mut [usize], marks: &[u8], placed: &mut 
 fn place_first(first: bool, reserved: &[usize], left: &mut [usize], marks: &[u8], placed: &mut [u8])
     requires { ⌜ (length (now reserved) ≤ 8) × (length (now marks) ≤ 512) ⌝ }
     requires { ⌜ Placing (now reserved) (now marks) (now placed) × Left (now reserved) (now left) (now placed) ⌝ }
-    ensures { λ _. ⌜ PlacedFirst first (now (reserved .entry)) (now (marks .entry)) (now (placed .entry)) (now (placed .exit)) ⌝ }
+    ensures { λ _. ⌜ PlacedFirst first (now (reserved .entry)) (now (marks .entry)) (now (placed .entry)) (now (placed .exit)) × Left (now (reserved .entry)) (now (left .exit)) (now (placed .exit)) ⌝ }
 {
     if first {
         lower_all(reserved, left, marks, placed);

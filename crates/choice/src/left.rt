@@ -18,7 +18,7 @@ pub fn positions_of(reserved: &[usize]) -> [usize; 8]
     room
 }
 
-// Takes the type of the one at c away, if there is one, and gives its position back.
+// Takes away the type of the one at c, if there is one, and gives its position back.
 pub fn vacate(left: &mut [usize], placed: &mut [u8], c: usize)
     requires { ⌜ Vacating (now left) (now placed) c ⌝ }
     ensures { λ _. ⌜ (now (left .exit) ≡ givenBack (now (left .entry)) (getD (now (placed .entry)) c 0)) × (now (placed .exit) ≡ set (now (placed .entry)) c 0) ⌝ }
@@ -30,7 +30,7 @@ pub fn vacate(left: &mut [usize], placed: &mut [u8], c: usize)
     }
 }
 
-// Moves the one at c, with a type or none, to type t, and takes a position of it.
+// Moves the one at c to type t: gives back the position of the type before, if there is one, and takes one of type t.
 pub fn settle(left: &mut [usize], placed: &mut [u8], c: usize, t: usize)
     requires { ⌜ Vacating (now left) (now placed) c × (t < 8) × (t < length (now left)) × (0 < getD (now left) t 0) ⌝ }
     ensures { λ _. ⌜ (now (left .exit) ≡ oneLess (givenBack (now (left .entry)) (getD (now (placed .entry)) c 0)) t) × (now (placed .exit) ≡ set (now (placed .entry)) c (suc t)) ⌝ }

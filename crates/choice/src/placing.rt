@@ -2,12 +2,12 @@
 use crate::left::settle;
 use round::word::wide;
 ghost use mathlib.Core.Path.{_≡_};
-ghost use mathlib.Core.Bool.{false, _&&_};
+ghost use mathlib.Core.Bool.{true, false, _&&_};
 ghost use Prim.Native.Nat.{_+_, _≤_, _<_};
 ghost use lib.Dec.{eqb};
 ghost use lib.ListN.{length, getD};
 ghost use Rattle.choice.specs.Use.{holds};
-ghost use Rattle.choice.specs.Search.{NothingToTry, Sought, Searching, Searched};
+ghost use Rattle.choice.specs.Search.{NothingToTry, SomeToTry, Sought, Searching, Searched};
 
 // What a search comes to: the type that was found, or nothing.
 pub enum Found {
@@ -34,7 +34,7 @@ pub fn to_try(marks: u8, visited: &[u8], t: usize) -> bool
 // Whether the marks have some type where the search has not been.
 fn some_to_try(marks: u8, visited: &[u8]) -> bool
     requires { ⌜ length (now visited) ≡ 8 ⌝ }
-    ensures { λ r. ⌜ (r ≡ false → NothingToTry marks (now (visited .entry))) ⌝ }
+    ensures { λ r. ⌜ (r ≡ false → NothingToTry marks (now (visited .entry))) × (r ≡ true → SomeToTry marks (now (visited .entry))) ⌝ }
 {
     for t in 0..8 {
         if to_try(marks, visited, t) {
@@ -44,7 +44,8 @@ fn some_to_try(marks: u8, visited: &[u8]) -> bool
     false
 }
 
-// Going up from place `end`, the place behind the next one who is placed at type t and has some type where the search has not been; 0 for none.
+// Going up the places from before `end`, one more than the place of the next one who is placed at type t and has some type where the search
+// has not been; 0 for none.
 fn next_holder(marks: &[u8], placed: &[u8], visited: &[u8], t: usize, end: usize) -> usize
     requires { ⌜ (t < 8) × (end ≤ length (now placed)) × (length (now placed) ≡ length (now marks)) × (length (now visited) ≡ 8) ⌝ }
     ensures { λ r. ⌜ Sought (now (marks .entry)) (now (placed .entry)) (now (visited .entry)) t end r ⌝ }

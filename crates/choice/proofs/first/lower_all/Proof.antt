@@ -118,7 +118,7 @@ same-length-2 c = search needs
 returns : tie.Need-returns Inv-loop μ-loop
 returns c =
     let at : tie.At-loop Inv-loop μ-loop = search needs in
-    lowered-all _ _ _ (at .loop .inv .6) (omega arith)
+    (lowered-all _ _ _ (at .loop .inv .6) (omega arith), at .loop .inv .6 .positions)
 
 pub lower-all-spec : {M : Type 1} → statement M
 lower-all-spec =

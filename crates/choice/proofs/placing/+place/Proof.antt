@@ -105,7 +105,7 @@ ended t c =
     (λ w. (
       ended-by _ _ _ entry refl places (w .8) (w .10)
           (clear _ _ _ (k .loop .inv .6) (k .loop .inv .4) (pre .few) (w .0 .taken) (w .3 .ensures) (w .4 .taken) (placing t k)
-          (some-left (placing t k) (k .loop .inv .5) _ (omega arith) (w .6 .taken))),
+          (some-left (k .loop .inv .5) _ (omega arith) (w .6 .taken))),
       left-by (w .7) (w .8) (k .loop .inv .5),
       ap length (w .7) ∙ values,
       ap length (w .8 ∙ as-placed t k),

@@ -45,7 +45,7 @@ returns c =
     let at : tie.At-loop Inv-loop μ-loop = search needs in
     let read : tie.After-wide Inv-loop μ-loop = search needs in
     let here : tie.Then1 Inv-loop μ-loop = search needs in
-    sought _ _ _ _ _ (at .loop .inv .1) (omega arith) (omega arith) (read .wide .ensures .0) (here .if1 .taken) (omega arith)
+    sought _ _ _ _ _ (at .loop .inv .1) (omega arith) (omega arith) (read .wide .ensures .0) (here .if1 .taken) (c .before .some-to-try .ensures .1 (c .if2 .taken)) (omega arith)
 
 add-k : tie.Need-add-k Inv-loop μ-loop
 add-k c = search needs
@@ -61,7 +61,7 @@ loop-again c =
     let at-h = start .args .end - 1 - at .loop .k in (
       omega arith,
       ⊎-elim
-          (λ w. passed-spent _ _ _ _ _ {g = at-h} (at .loop .inv .1) (omega arith) (omega arith) (w .2 .ensures (w .3 .left)))
+          (λ w. passed-spent _ _ _ _ _ {g = at-h} (at .loop .inv .1) (omega arith) (omega arith) (w .2 .ensures .0 (w .3 .left)))
           (λ w. passed-other _ _ _ _ _ {g = at-h} (at .loop .inv .1) (omega arith) (omega arith) (read .wide .ensures .0) (w .left))
           (c .if1 .came),
     )

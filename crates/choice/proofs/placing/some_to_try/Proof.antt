@@ -5,7 +5,7 @@ use mathlib.Core.Bool.{true}
 use native.Mathlib.Omega.{arith}
 use lib.ListN.{getD}
 use Rattle.choice.specs.Use.{holds}
-use Rattle.choice.proofs.Holders.{nothing-more}
+use Rattle.choice.proofs.Holders.{nothing-more, one-to-try}
 use borrow.Author.Needs.{needs}
 use Rattle.choice.proofs.placing.some_to_try.Statement.{statement}
 use Rattle.choice.proofs.placing.some_to_try.Tie as tie
@@ -23,7 +23,12 @@ to-try-requires : tie.Need-to-try-requires Inv-loop μ-loop
 to-try-requires c κs = search needs
 
 returns : tie.Need-returns Inv-loop μ-loop
-returns c = λ e. absurd (let z : _≡_ {A = ℕ} 0 1 = cc in omega arith)
+returns c =
+    let start : tie.Start Inv-loop μ-loop = search needs in
+    let tried : tie.After-to-try Inv-loop μ-loop = search needs in (
+      λ e. absurd (let z : _≡_ {A = ℕ} 0 1 = cc in omega arith),
+      λ e. one-to-try (start .args .marks) (start .args .visited .now) (omega arith) (tried .to-try .ensures) (c .if1 .taken),
+    )
 
 add-t : tie.Need-add-t Inv-loop μ-loop
 add-t c = search needs
@@ -41,7 +46,7 @@ loop-again c =
 returns-2 : tie.Need-returns-2 Inv-loop μ-loop
 returns-2 c =
     let at : tie.At-loop Inv-loop μ-loop = search needs in
-    λ e u l. at .loop .inv .1 u (omega arith)
+    (λ e u l. at .loop .inv .1 u (omega arith), λ e. absurd (let z : _≡_ {A = ℕ} 0 1 = cc in omega arith))
 
 pub some-to-try-spec : {M : Type 1} → statement M
 some-to-try-spec =
