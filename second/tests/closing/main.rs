@@ -235,10 +235,13 @@ fn counting_those_taken_for_use_is_caught() {
             "every-step",
             "filled-though-marked",
             "found-by-moving",
+            "given-back",
+            "longest-chain",
             "lowest-for-use",
             "marked-and-rejected",
             "moved-between-types",
             "no-types-at-6",
+            "one-left-after-moves",
             "pushed-up",
             "rejected-goes-last"
         ]

@@ -262,7 +262,13 @@ fn by(tiny: usize, several: usize, names: &[&str]) -> (usize, usize, Vec<String>
 }
 
 /// The worked rounds in which an earlier and a later candidate could have the same smaller type.
-const ONE_TYPE_FOR_TWO: [&str; 4] = ["down-again", "equal-marks", "found-by-moving", "pushed-up"];
+const ONE_TYPE_FOR_TWO: [&str; 5] = [
+    "down-again",
+    "equal-marks",
+    "found-by-moving",
+    "given-back",
+    "pushed-up",
+];
 
 #[test]
 fn there_are_lists_to_catch_wrong_types() {
@@ -279,7 +285,7 @@ fn the_placing_found_by_moving_is_caught() {
 #[test]
 fn the_placing_found_by_moving_where_all_are_full_is_caught() {
     assert_eq!(lists_caught(moving_if_full), 1545);
-    let due = by(0, 41, &["found-by-moving"]);
+    let due = by(0, 41, &["found-by-moving", "given-back"]);
     assert_eq!(rule_caught(&Listed(moving_if_full)), due);
 }
 
@@ -297,11 +303,14 @@ fn types_numbered_from_0_are_caught() {
         "every-step",
         "filled-though-marked",
         "found-by-moving",
+        "given-back",
+        "longest-chain",
         "lowest-for-use",
         "marked-and-rejected",
         "marked-by-merit",
         "moved-between-types",
         "no-types-at-6",
+        "one-left-after-moves",
         "pushed-up",
         "rejected-goes-last",
     ];
@@ -321,8 +330,11 @@ fn the_smallest_type_without_regard_to_the_rest_is_caught() {
     let names = [
         "all-eight-types",
         "found-by-moving",
+        "given-back",
+        "longest-chain",
         "moved-between-types",
         "no-types-at-6",
+        "one-left-after-moves",
     ];
     assert_eq!(rule_caught(&Listed(without_regard)), by(8, 446, &names));
 }
@@ -335,8 +347,11 @@ fn the_smallest_type_held_is_caught() {
         "down-again",
         "equal-marks",
         "found-by-moving",
+        "given-back",
+        "longest-chain",
         "moved-between-types",
         "no-types-at-6",
+        "one-left-after-moves",
         "pushed-up",
     ];
     assert_eq!(rule_caught(&Listed(smallest_held)), by(742, 3304, &names));
@@ -351,7 +366,11 @@ fn the_smallest_sum_is_caught() {
 
 #[test]
 fn reading_down_the_numbers_is_caught() {
-    let due = by(4, 283, &["equal-marks", "found-by-moving", "pushed-up"]);
+    let due = by(
+        4,
+        283,
+        &["equal-marks", "found-by-moving", "given-back", "pushed-up"],
+    );
     assert_eq!(rule_caught(&ByNumber), due);
 }
 
