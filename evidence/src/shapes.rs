@@ -221,7 +221,7 @@ fn two_types(first: usize) -> u8 {
     1 << (first % 8) | 1 << ((first + 1) % 8)
 }
 
-/// A round hard on the placing search: n OBC candidates, a multiple of 16, at one institute whose open and OBC positions are n / 2 each, all reserved for 8 types, so that those who find no open one search again; seed 0 gives the steep one, where everybody holds every type and nearly all positions are of type 8, so that a search in the order of types visits all eight and moves a holder of each; 1 the full one, where everybody holds every type and each has as many positions; 2 the chain; 3 the one behind, where who cannot move stands behind who can; others mix the second and the third.
+/// A round hard on the placing search: n OBC candidates, a multiple of 16, at one institute whose open and OBC positions are n / 2 each, all reserved for 8 types, so that those who find no open one search again; seed 0 gives the steep one, where everybody holds every type and nearly all positions are of type 8, so that a search in the order of types visits all eight and moves a holder of each; 1 the full one, where everybody holds every type and each has as many positions; 2 the chain; 3 the one behind, where who cannot move stands behind who can; others mix marks of the full one, the chain and pairs of types.
 pub fn worst(n: usize, seed: u64) -> Round {
     let mut random = Random::new(seed);
     let half = n / 2;
