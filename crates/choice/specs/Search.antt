@@ -14,7 +14,7 @@ use Rattle.choice.specs.Left.{atType, Left}
 abbrev pub NothingToTry : ℕ → List ℕ → Type 0
 NothingToTry marks visited = (u : ℕ) → u < 8 → holds marks u ≡ true → 0 < getD visited u 0
 
--- .. or there is one more to try
+-- .. or one of them is still to try
 abbrev pub SomeToTry : ℕ → List ℕ → Type 0
 SomeToTry marks visited = (u : ℕ) × (u < 8) × (holds marks u ≡ true) × (getD visited u 0 ≡ 0)
 
