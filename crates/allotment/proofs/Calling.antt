@@ -13,7 +13,8 @@ use Rattle.round.specs.Reading.{roundOf}
 use Rattle.allotment.specs.declared.Answer.{Answer}
 use Rattle.allotment.specs.declared.Answer.the-variants.{Allotted, Refused}
 use Rattle.offers.specs.Process.{offersMade}
-use Rattle.allotment.specs.Areas.{answerBytes, answerSize, workSize}
+use Rattle.allotment.specs.Areas.{answerBytes, answerSize}
+use Rattle.offers.specs.Areas.{workSize}
 use Rattle.allotment.specs.Promise.{Promise}
 use Rattle.offers.specs.Held.{AtHand}
 use Rattle.allotment.specs.Handing.{refusedBy}

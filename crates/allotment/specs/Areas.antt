@@ -1,4 +1,4 @@
--- The bytes of the answer area and the sizes of both areas (document 01, "Offers": "The answer area gets ..", and question 14; document 02,
+-- The bytes of the answer area and its size (document 01, "Offers": "The answer area gets ..", and question 14; document 02,
 -- Points 1 and 3).
 use Prim.Native.Nat.{ℕ, suc, _+_, _*_, _/_, _%_}
 use mathlib.Core.List.{List, [], _∷_, _++_}
@@ -6,14 +6,12 @@ use lib.ListN.{getD}
 use Rattle.round.specs.Lists.{tabulate, joined}
 use Rattle.round.specs.Round.{Round}
 use Rattle.choice.specs.Account.{StepAccount, accountOf, closingPlace}
+use Rattle.offers.specs.Areas.{seatBytes}
 use Rattle.offers.specs.Process.{Seat, noSeat, candidateCount, instituteCount, seats, accountAtEnd, typesUsed}
 
 -- a two-byte number, little-endian
 abbrev pub wordBytes : ℕ → List ℕ
 wordBytes x = x % 256 ∷ (x / 256) % 256 ∷ []
-
-abbrev pub seatBytes : Seat → List ℕ
-seatBytes s = s .institute ∷ s .step ∷ []
 
 -- the closing places of institute j, step by step from the first: by the account of its choice from all offers ever made to it, when the
 -- process has ended; 0 for a step that it has not
@@ -33,20 +31,9 @@ answerBytes r =
     ++ joined (tabulate (instituteCount r) (closingBytes r))
     ++ typesUsed r
 
--- the bytes of both areas that question 14 asks for
+-- the bytes of the answer area that question 14 asks for
 abbrev pub answerSize : Round → ℕ
 answerSize r = 3 * candidateCount r + 12 * instituteCount r
-
-abbrev pub workSize : Round → ℕ
-workSize r = 8 * candidateCount r
-
--- the seat that stands for candidate i in an answer area
-unfoldable pub seatIn : List ℕ → ℕ → Seat
-seatIn area i = record { institute = getD area (2 * i) 0; step = getD area (2 * i + 1) 0 }
-
--- the list that stands in an answer area
-unfoldable pub seatsIn : ℕ → List ℕ → List Seat
-seatsIn n area = tabulate n (seatIn area)
 
 -- the type that stands for candidate i of n in an answer area with the closing places of m institutes
 abbrev pub typeStanding : ℕ → ℕ → List ℕ → ℕ → ℕ

@@ -13,7 +13,8 @@ use Rattle.round.specs.Refusal.{Verdict, verdict}
 use Rattle.allotment.specs.declared.Answer.{Answer}
 use Rattle.allotment.specs.declared.Answer.the-variants.{Allotted, Refused}
 use Rattle.offers.specs.Process.{offersMade}
-use Rattle.allotment.specs.Areas.{answerBytes, answerSize, workSize}
+use Rattle.allotment.specs.Areas.{answerBytes, answerSize}
+use Rattle.offers.specs.Areas.{workSize}
 
 -- the answer: "allotted" with the number of offers, or "refused" with a number and a byte offset
 pub data Outcome : Type 0 where

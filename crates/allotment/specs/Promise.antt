@@ -8,7 +8,7 @@ use lib.ListN.{length}
 use Rattle.round.specs.Reading.{roundOf}
 use Rattle.allotment.specs.declared.Answer.{Answer}
 use Rattle.offers.specs.Process.{candidateCount}
-use Rattle.allotment.specs.Areas.{seatsIn}
+use Rattle.offers.specs.Areas.{seatsIn}
 use Rattle.allotment.specs.Outcome.{outcomeOf, outcome, answerAfter, workAfter, Accepted}
 use Rattle.allotment.specs.Truthful.{Truthful}
 use Rattle.allotment.specs.Types.{Published}

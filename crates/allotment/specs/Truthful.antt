@@ -7,7 +7,7 @@ use lib.ListN.{take}
 use Rattle.round.specs.Records.{headOf, recordOf, bodyOf, candidateRecord, recordCount}
 use Rattle.round.specs.Reading.{roundOf}
 use Rattle.offers.specs.Standing.{standing}
-use Rattle.allotment.specs.Areas.{seatIn}
+use Rattle.offers.specs.Areas.{seatIn}
 use Rattle.allotment.specs.Outcome.{Accepted, answerAfter}
 
 -- document 01's "alike in all but one row", that of candidate i: every other record is the same byte for byte, and so are the code and

@@ -7,7 +7,8 @@ use Rattle.choice.specs.Account.{typeUsed, accountOf}
 use Rattle.offers.specs.Offers.{placeOn}
 use Rattle.offers.specs.Process.{noSeat, candidateCount, instituteCount, accountAtEnd}
 use Rattle.offers.specs.FirstTypes.{FirstTypes}
-use Rattle.allotment.specs.Areas.{seatIn, typeStanding}
+use Rattle.allotment.specs.Areas.{typeStanding}
+use Rattle.offers.specs.Areas.{seatIn}
 
 -- beside the seat at step k of institute j, both from 0, stands the type that the step used for the candidate, by the account of the institute's
 -- choice from all offers ever made to it; beside no seat stands 0; and these accounts have the first placings

@@ -14,7 +14,7 @@ use Rattle.round.specs.Refusal.{verdict, passes}
 use Rattle.round.specs.Outcome.{MeritStarts}
 use Rattle.offers.specs.Process.{Seat, noSeat, seats, typesUsed}
 use Rattle.offers.specs.Held.{HeldIn}
-use Rattle.allotment.specs.Areas.{seatBytes}
+use Rattle.offers.specs.Areas.{seatBytes}
 
 -- the seat that two arrays hold for candidate i
 abbrev pub seatHeld : List ℕ → List ℕ → ℕ → Seat

@@ -1,6 +1,7 @@
 pub mod Rows
 pub mod Offers
 pub mod Process
+pub mod Areas
 pub mod Ended
 pub mod Orders
 pub mod Standing

@@ -5,15 +5,12 @@ use lib.Dec.{ltb}
 use lib.ListN.{length}
 use Rattle.round.specs.Questions.{within}
 use Rattle.round.specs.Round.{Round}
-use Rattle.round.specs.Places.{instituteAt}
 use Rattle.offers.specs.Rows.{rowAt, rankIn, entryOf, categoryAt}
 use Rattle.offers.specs.Process.{Seat, isNone, instituteCount}
 
--- the seat is of a step that an institute of the round has
+-- the seat names an institute of the round and a step from 1 to 6 (document 02, Point 5), whether or not its institute has a step 6
 unfoldable pub isStep : Round → Seat → Bool
-isStep r s =
-    within 1 (instituteCount r) (s .institute)
-    && within 1 (length (instituteAt r (s .institute - 1) .steps)) (s .step)
+isStep r s = within 1 (instituteCount r) (s .institute) && within 1 6 (s .step)
 
 -- the place in candidate i's row of the entry that a seat stands for; the row's length where the row has it not
 unfoldable pub seatRank : Round → ℕ → Seat → ℕ

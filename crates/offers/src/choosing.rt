@@ -67,7 +67,7 @@ pub fn choose_listed(
 }
 
 // Institute j, from 0, chooses, and the steps of those who take part are put into the table.
-fn choose_anew(
+pub fn choose_anew(
     file: &[u8],
     h: Head,
     candidates: &[usize],

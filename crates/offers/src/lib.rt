@@ -1,7 +1,7 @@
 // The offers of a round.
-mod choosing;
-mod gather;
-mod offering;
+pub mod choosing;
+pub mod gather;
+pub mod offering;
 pub mod process;
 mod scatter;
 mod table;

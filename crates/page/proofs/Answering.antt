@@ -14,7 +14,8 @@ use Rattle.round.proofs.Answers as answers
 use Rattle.round.proofs.Passed.{passed}
 use Rattle.round.proofs.Sound.{sound, length-candidates, length-institutes}
 use Rattle.offers.specs.Process.{candidateCount, instituteCount}
-use Rattle.allotment.specs.Areas.{answerBytes, seatIn}
+use Rattle.allotment.specs.Areas.{answerBytes}
+use Rattle.offers.specs.Areas.{seatIn}
 use Rattle.allotment.proofs.Files.AreaSeats.{length-answer}
 use Rattle.text.specs.Put.{Fits, Put, Front}
 use Rattle.text.proofs.Putting.{front-put}

@@ -5,7 +5,7 @@ use mathlib.Core.List.{List}
 use lib.ListN.{getD}
 use Rattle.round.specs.Lists.{tabulate, joined}
 use Rattle.round.specs.Records.{word}
-use Rattle.allotment.specs.Areas.{seatIn}
+use Rattle.offers.specs.Areas.{seatIn}
 use Rattle.text.specs.Decimal.{nextNumber}
 use Rattle.text.specs.Put.{Fits, Put}
 use Rattle.text.proofs.Putting.{put-none, fits-piece, put-piece, put-all}

@@ -5,7 +5,8 @@ use native.Mathlib.Omega.{arith}
 use lib.ListN.{length, getD, length-append}
 use Rattle.round.proofs.Joined.{joined-short}
 use Rattle.offers.specs.Process.{Seat}
-use Rattle.allotment.specs.Areas.{seatIn, typeStanding}
+use Rattle.allotment.specs.Areas.{typeStanding}
+use Rattle.offers.specs.Areas.{seatIn}
 use Rattle.text.specs.Ascii.{ascii}
 use Rattle.text.specs.Decimal.{decimal, nextNumber, named}
 use Rattle.text.proofs.Decimals.{decimal-short}

@@ -14,7 +14,8 @@ use Rattle.offers.proofs.Rounds.Bounds.{merit-short}
 use Rattle.offers.proofs.Rounds.Agreed.{step-number}
 use Rattle.offers.proofs.Rounds.Seats.{Seated, Unseated, seat-of}
 use Rattle.offers.proofs.Rounds.Process.{tried-running}
-use Rattle.allotment.specs.Areas.{closingPlaces, answerBytes, seatIn, typeStanding}
+use Rattle.allotment.specs.Areas.{closingPlaces, answerBytes, typeStanding}
+use Rattle.offers.specs.Areas.{seatIn}
 use Rattle.allotment.proofs.Files.AreaSeats.{seat-stands, type-stands, closing-stands}
 use Rattle.allotment.proofs.Files.Closing.{closing-few}
 use Rattle.text.specs.Decimal.{nextNumber}

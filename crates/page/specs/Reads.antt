@@ -7,7 +7,8 @@ use Rattle.round.specs.Records.{word}
 use Rattle.round.specs.Reading.{roundOf}
 use Rattle.round.specs.Refusal.{verdict, passes}
 use Rattle.offers.specs.Process.{offersMade}
-use Rattle.allotment.specs.Areas.{seatIn, typeStanding, answerBytes}
+use Rattle.allotment.specs.Areas.{typeStanding, answerBytes}
+use Rattle.offers.specs.Areas.{seatIn}
 use Rattle.page.specs.Page.{offersLine, seatLine, closingLine}
 
 -- the lines of the seats and types that stand in an answer area

@@ -5,7 +5,7 @@ use crate::lines::put_seat;
 use round::word::wide;
 ghost use Prim.Native.Nat.{_+_, _*_, _≤_, _<_};
 ghost use lib.ListN.{length, getD};
-ghost use Rattle.allotment.specs.Areas.{seatIn};
+ghost use Rattle.offers.specs.Areas.{seatIn};
 ghost use Rattle.text.specs.Put.{Fits, Put};
 ghost use Rattle.page.specs.Page.{seatLine};
 ghost use Rattle.page.specs.Reads.{seatLines, closingLines, pageIn};

@@ -11,7 +11,8 @@ use Rattle.round.specs.Reading.{roundOf}
 use Rattle.round.specs.Refusal as Refusal
 use Rattle.round.specs.Refusal.{Verdict, verdict, passes}
 use Rattle.offers.specs.Process.{noSeat, candidateCount, instituteCount, offersMade, seats, typesUsed}
-use Rattle.allotment.specs.Areas.{answerBytes, answerSize, workSize, seatIn, seatsIn, typeStanding}
+use Rattle.allotment.specs.Areas.{answerBytes, answerSize, typeStanding}
+use Rattle.offers.specs.Areas.{workSize, seatIn, seatsIn}
 use Rattle.allotment.specs.Outcome.{Outcome, allotted, refused, outcome, outcomeBy, answerAfter, workAfter, Accepted}
 use Rattle.allotment.proofs.Files.AreaSeats.{length-answer, seat-stands, seats-stand, type-stands}
 

@@ -12,7 +12,8 @@ use Rattle.round.specs.Round.{Round}
 use Rattle.round.specs.Records.{word}
 use Rattle.round.proofs.Words.{length-tabulate, tabulate-at}
 use Rattle.offers.specs.Process.{noSeat, candidateCount, instituteCount, seats, typesUsed}
-use Rattle.allotment.specs.Areas.{wordBytes, seatBytes, closingPlaces, closingBytes, answerBytes, answerSize, seatIn, seatsIn, typeStanding}
+use Rattle.allotment.specs.Areas.{wordBytes, closingPlaces, closingBytes, answerBytes, answerSize, typeStanding}
+use Rattle.offers.specs.Areas.{seatBytes, seatIn, seatsIn}
 use Rattle.offers.proofs.Rounds.Bounds.{list-length}
 use Rattle.offers.proofs.Rounds.AccountRound.{types-length}
 use Rattle.allotment.proofs.Files.Pieces.{length-pieces, getD-pieces}

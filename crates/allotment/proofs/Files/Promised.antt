@@ -18,7 +18,7 @@ use Rattle.offers.proofs.Rounds.AnyOrder.{any-order-ends}
 use Rattle.offers.proofs.Rounds.AccountRound.{types-at-step, types-unseated, seat-inside}
 use Rattle.offers.proofs.Rounds.FirstTypes.{types-first}
 use Rattle.allotment.specs.declared.Answer.{Answer}
-use Rattle.allotment.specs.Areas.{seatsIn}
+use Rattle.offers.specs.Areas.{seatsIn}
 use Rattle.allotment.specs.Outcome.{outcomeOf, outcome, answerAfter, workAfter, Accepted}
 use Rattle.allotment.specs.Truthful.{Truthful}
 use Rattle.allotment.specs.Types.{Published}

@@ -12,7 +12,8 @@ use Rattle.round.specs.Round.{Round}
 use Rattle.round.proofs.Words.{reached}
 use Rattle.round.proofs.Joined.{sets-append, joined-more}
 use Rattle.offers.specs.Process.{noSeat}
-use Rattle.allotment.specs.Areas.{seatBytes, wordBytes, closingPlaces, closingBytes}
+use Rattle.allotment.specs.Areas.{wordBytes, closingPlaces, closingBytes}
+use Rattle.offers.specs.Areas.{seatBytes}
 use Rattle.allotment.specs.Writing.{seatHeld, seatsHeld, heldBytes}
 use Rattle.allotment.proofs.Files.Pieces.{length-pieces}
 use Rattle.allotment.proofs.Files.AreaSeats.{length-closing}

@@ -8,7 +8,8 @@ use Rattle.round.specs.Refusal.{verdict, passes}
 use Rattle.round.specs.Reading.{roundOf}
 use Rattle.allotment.specs.declared.Answer.the-variants.{Allotted, Refused}
 use Rattle.offers.specs.Process.{offersMade}
-use Rattle.allotment.specs.Areas.{answerBytes, answerSize, workSize}
+use Rattle.allotment.specs.Areas.{answerBytes, answerSize}
+use Rattle.offers.specs.Areas.{workSize}
 use Rattle.allotment.specs.Outcome.{refused, outcome}
 use Rattle.allotment.specs.Promise.{Promise}
 use Rattle.allotment.proofs.Files.Accepting.{outcome-refused, outcome-answer-small, outcome-work-small, outcome-allotted}

@@ -123,7 +123,7 @@ module _ {types types' : ℕ} {r r' : Round} (sound : Sound types r) (sound' : S
           let rank : ℕ = rankIn (rowAt r i) (entryOf j (s .category)) in
           let there : instituteAt r j ≡ instituteAt r' j = ap (λ (l : List Institute). getD l j noInstitute) (alike .institutes) in
           let inside : j < instituteCount r = omega (arith, s .inside, ap (λ (l : List Institute). length l) (alike .institutes)) in
-          let most : k ≤ length (instituteAt r j .steps) = omega (arith, step-number r' j (madeTo r' (tried r') j) i, ap (λ (o : Institute). length (o .steps)) there) in
+          let most : k ≤ 6 = omega (arith, step-number r' j (madeTo r' (tried r') j) i, sound' .institute j (s .inside) .steps-most) in
           let stands : standing r i (getD (seats r') i noSeat) ≡ cond (ltb rank size) rank (suc size) =
           ap (standing r i) (s .seat)
           ∙ standing-at r j k inside (s .number) most i

@@ -118,7 +118,7 @@ module _ {file : List ℕ} {h : CodeHead} {candidates merits : List ℕ} (hand :
     held-given c =
         ap (λ x. holds x (codeOf c)) wanted-at
         ∙ holds-only (categoryAt r j (getD steps i 0)) c
-        ∙ rw (is-step r j (getD steps i 0) hj (λ z. step-at .1 (sym (step-at .0) ∙ z)) (omega (arith, step-at .0, step-number r j (madeTo r (tried r) j) i)))
+        ∙ rw (is-step r j (getD steps i 0) hj (λ z. step-at .1 (sym (step-at .0) ∙ z)) (omega (arith, step-at .0, step-number r j (madeTo r (tried r) j) i, sound .institute j hj .steps-most)))
 
     -- and takes part where institute j chooses from its seats
     held-part : takesPart r j (offerTo (suc j) holders wanted) i ≡ true
