@@ -16,6 +16,7 @@ pub mod Offers
 pub mod Completion
 pub mod Chosen
 pub mod Agreement
+pub mod FirstDifference
 pub mod Accounts
 pub mod TypesFirst
 pub mod PositionsLeft

@@ -5,6 +5,7 @@ pub mod Places
 pub mod Completed
 pub mod Institutes
 pub mod Agreed
+pub mod FirstDifference
 pub mod Running
 pub mod Seats
 pub mod Counted

@@ -34,7 +34,7 @@ eqb-sym a b = go (eqb b a) refl
     go false e = ne-eqb a b (λ p. eqb-false b a e (sym p)) ∙ sym e
 
 -- step number k, from 1, takes under category c
-under-is : (rules : List StepRule) (k : ℕ) (c : Category) → k ≤ length rules
+pub under-is : (rules : List StepRule) (k : ℕ) (c : Category) → k ≤ length rules
     → (not (eqb k 0) && sameCategory (getD rules (k - 1) noStep .category) c) ≡ takenUnder rules k c
 under-is [] zero c l = refl
 under-is [] (suc k) c l = absurd (omega arith)
