@@ -1,4 +1,4 @@
--- Seats as bytes of an area, and the size of the work area (document 01, "Offers": "The answer area gets ..", and question 14; document 02,
+-- Seats as bytes, and the size of the work area (document 01, "Offers": "The answer area gets ..", and question 14; document 02,
 -- Point 5).
 use Prim.Native.Nat.{ℕ, _+_, _*_}
 use mathlib.Core.List.{List, [], _∷_}
@@ -10,13 +10,13 @@ use Rattle.offers.specs.Process.{Seat, candidateCount}
 abbrev pub seatBytes : Seat → List ℕ
 seatBytes s = s .institute ∷ s .step ∷ []
 
--- the seat that stands for candidate i in an area that begins with a list
+-- the seat of candidate i in bytes that begin with a list
 unfoldable pub seatIn : List ℕ → ℕ → Seat
-seatIn area i = record { institute = getD area (2 * i) 0; step = getD area (2 * i + 1) 0 }
+seatIn bytes i = record { institute = getD bytes (2 * i) 0; step = getD bytes (2 * i + 1) 0 }
 
--- the list of n candidates that an area begins with
+-- the list of n candidates that bytes begin with
 unfoldable pub seatsIn : ℕ → List ℕ → List Seat
-seatsIn n area = tabulate n (seatIn area)
+seatsIn n bytes = tabulate n (seatIn bytes)
 
 -- the bytes of the work area that question 14 asks for
 abbrev pub workSize : Round → ℕ

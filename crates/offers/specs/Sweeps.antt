@@ -60,7 +60,7 @@ pub record OffersMade (r : Round) (steps tried₀ asked₀ wanted₀ tried asked
   pub fresh-many : length fresh ≡ 32
   pub fresh-new : (i : ℕ) → i < candidateCount r → mayTry r tried₀ steps i ≡ true → getD fresh (nextEntry r tried₀ i .institute - 1) 0 ≢ 0
 
--- the categories of candidate c's last offer where it was made to the institute with a number, else none
+-- the categories of candidate c's offer, by two tables, where it is made to the institute with a number, else none
 unfoldable pub offerTo : ℕ → List ℕ → List ℕ → ℕ → ℕ
 offerTo number asked wanted c = cond (eqb (getD asked c 0) number) (getD wanted c 0) 0
 

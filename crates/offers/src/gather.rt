@@ -12,7 +12,7 @@ ghost use Rattle.round.specs.Outcome.{CandidateStarts};
 ghost use Rattle.round.specs.Access.{instituteOf, MeritKnown};
 ghost use Rattle.offers.specs.Sweeps.{offerTo, Gathered};
 
-// The categories of candidate c's last offer, where it was made to the institute with a number, else none.
+// The categories of candidate c's offer, by two tables, where it is made to the institute with a number, else none.
 pub fn offer_to(asked: &[u8], wanted: &[u8], number: usize, c: usize) -> u8
     requires { ⌜ (c < length (now asked)) × (c < length (now wanted)) ⌝ }
     ensures { λ r. ⌜ r ≡ offerTo number (now (asked .entry)) (now (wanted .entry)) c ⌝ }

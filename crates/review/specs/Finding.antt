@@ -1,5 +1,5 @@
--- What a review finds on a list of seats (document 02, Point 5). Candidates, entries and merit places are numbered from 0 here, and the numbers
--- of a finding from 1.
+-- What a review finds on a list of seats (document 02, Point 5). Candidates, institutes and the entries of a row have numbers from 0 here; a
+-- finding names a candidate, and the institute of an entry, by its number from 1.
 use Prim.Native.Nat.{ℕ, suc, _-_}
 use mathlib.Core.Bool.{Bool, cond, not, _&&_, _||_}
 use mathlib.Core.List.{List}
@@ -24,7 +24,7 @@ pub data Finding : Type 0 where
   betterEntry : ℕ → Entry → Finding
 
 module _ (r : Round) (list : List Seat) where
-  -- candidate i's seat is in the row: it stands for one of its entries
+  -- candidate i's seat is in the row: it stands for an entry of the row
   unfoldable pub inRow : ℕ → Bool
   inRow i = ltb (seatRank r i (seatOn list i)) (length (rowAt r i))
 
@@ -32,7 +32,7 @@ module _ (r : Round) (list : List Seat) where
   unfoldable pub listedAt : ℕ → OfferSet
   listedAt j i c = inRow i && given r list j i c
 
-  -- the step that the institute of candidate i's seat gives when it chooses from these
+  -- the step that the institute of candidate i's seat gives i when it chooses from these
   unfoldable pub stepDue : ℕ → ℕ
   stepDue i = let j : ℕ = seatOn list i .institute - 1 in stepFor r j (listedAt j) i
 
@@ -48,7 +48,7 @@ module _ (r : Round) (list : List Seat) where
   unfoldable pub wouldTake : ℕ → Entry → Bool
   wouldTake i e = let j : ℕ = e .institute - 1 in takenFrom r j (withEntry j i (e .category)) i (e .category)
 
-  -- how many entries of candidate i's row rank above the seat: all where there is no seat
+  -- how many entries of candidate i's row rank above the seat: all where there is no seat, or none in the row
   unfoldable pub above : ℕ → ℕ
   above i = seatRank r i (seatOn list i)
 
@@ -60,13 +60,13 @@ module _ (r : Round) (list : List Seat) where
   unfoldable pub better : ℕ → Bool
   better i = ltb (best i) (above i)
 
-  -- where no seat is wrong: the first candidate with a better entry, and the best such entry
+  -- where no seat is wrong: the first candidate with a better entry, and the best such entry; failing that, the list passes
   unfoldable pub entryFinding : Finding
   entryFinding =
       let i : ℕ = first (candidateCount r) better in
       cond (ltb i (candidateCount r)) (betterEntry (suc i) (entryAt (candidateAt r i) (best i))) passes
 
-  -- the first candidate whose seat is wrong; failing that, the first with a better entry; failing that, the list passes
+  -- the first candidate whose seat is wrong; failing that, what is found on the entries
   unfoldable pub finding : Finding
   finding =
       let i : ℕ = first (candidateCount r) wrong in

@@ -38,8 +38,8 @@ listOf r list = seatsIn (candidateCount r) list
 -- 15: the list has two bytes for each candidate; then 14: the work area is large enough
 abbrev pub outcomeOn : Round → List ℕ → ℕ → Outcome
 outcomeOn r list workLength =
-    let all-well = found (finding r (listOf r list)) in
-    cond (eqb (length list) (listSize r)) (cond (leb (workSize r) workLength) all-well (refused 14 0)) (refused 15 0)
+    let reviewed = found (finding r (listOf r list)) in
+    cond (eqb (length list) (listSize r)) (cond (leb (workSize r) workLength) reviewed (refused 14 0)) (refused 15 0)
 
 abbrev pub outcomeBy : Verdict → Round → List ℕ → ℕ → Outcome
 outcomeBy Refusal.passes r list workLength = outcomeOn r list workLength

@@ -10,7 +10,8 @@ use Rattle.offers.specs.Stable.{Stable}
 use Rattle.review.specs.declared.Judgement.{Judgement}
 use Rattle.review.specs.Outcome.{outcomeOf, outcome, listOf, workAfter, Reviewed, Passing}
 
--- of a review of a list, with the lent work area: its answer, what stands in the area afterwards, and which lists pass
+-- of a review of a list, with the lent work area: its answer, what stands in the area afterwards, and which lists pass; the last three fields speak
+-- of the outcome, which by `answered` is what the review says
 pub record Promise (file list work : List ℕ) (result : Judgement) (workNow : List ℕ) : Type 0 where
   pub answered : outcomeOf result ≡ outcome file list (length work)
   pub workArea : workNow ≡ workAfter file list work

@@ -1,5 +1,5 @@
--- What the review's tables hold: the offers that the listed seats in their rows are, as for each candidate the number of an institute, 0 for
--- none, and a set of categories (bit c for code c); and the steps that the institutes give.
+-- What the review's tables hold: the listed seats that are in their rows, as offers (for each candidate the number of an institute, 0 for none, and
+-- a set of categories, bit c for code c), and the steps that the institutes give.
 use Prim.Native.Nat.{ℕ, suc, _+_, _*_, _-_, _^_, _≤_, _<_}
 use mathlib.Core.Path.{_≡_}
 use mathlib.Core.Bool.{Bool, true, false, not, _&&_}
@@ -25,7 +25,8 @@ pub record UnderReview (file : List ℕ) (h : Head) (candidates merits list : Li
   pub hand : AtHand file h candidates merits
   pub size : length list ≡ 2 * h .candidates
 
--- of the first k candidates two tables have the seats that are in their rows, and of nobody else any
+-- of the first k candidates two tables have the seats that are in their rows, and of nobody else any; step 6 has number 5 in `wanted-at`, which is
+-- open
 pub record SeatsRead (r : Round) (list : List Seat) (k : ℕ) (asked wanted : List ℕ) : Type 0 where
   pub asked-many : length asked ≡ candidateCount r
   pub wanted-many : length wanted ≡ candidateCount r

@@ -100,7 +100,7 @@ fn review_round(
     said
 }
 
-// The review of a list of seats for a round file: the list passes exactly where it is stable; else what is found first is named.
+// The review of a list of seats for a round file: where nothing is refused the list passes if it is stable, else what is found first is named.
 pub fn review(file: &[u8], list: &[u8], work: &mut [u8]) -> Judgement
     ensures { λ r. ⌜ Promise (now (file .entry)) (now (list .entry)) (now (work .entry)) r (now (work .exit)) ⌝ }
 {

@@ -181,7 +181,7 @@ fn best_entry(
     above
 }
 
-// The first candidate with an entry above the seat that would be chosen, and the best such entry.
+// The first candidate with an entry above the seat that would be chosen, and the best such entry; else the list passes.
 pub fn find_entry(
     file: &[u8],
     h: Head,

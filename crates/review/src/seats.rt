@@ -52,7 +52,7 @@ fn rank_in(file: &[u8], candidates: &[usize], i: usize, number: usize, category:
     size
 }
 
-// How many entries of candidate i's row, from 0, rank above the listed seat.
+// How many entries of the row of candidate i, from 0, rank above the listed seat.
 pub fn entries_above(
     file: &[u8],
     h: Head,

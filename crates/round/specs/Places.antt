@@ -6,7 +6,8 @@ use Rattle.round.specs.declared.entry.Category.the-variants.{Open}
 use Rattle.round.specs.declared.entry.Entry.{Entry}
 use Rattle.round.specs.Round.{StepRule, Institute, Candidate, Round}
 
--- what stands beyond the last place, and is never looked at
+-- what stands beyond the last place; of it only the category of `noStep` is looked at: a seat at step 6 stands for the open entry also where
+-- the institute has no such step
 abbrev pub noEntry : Entry
 noEntry = record { institute = 0; category = Open }
 

@@ -19,7 +19,8 @@ numbersOf (Refused number offset) = 1 ∷ number ∷ offset ∷ 0 ∷ []
 numbersOf (WrongSeat candidate) = 2 ∷ candidate ∷ 0 ∷ 0 ∷ []
 numbersOf (BetterEntry candidate entry) = 3 ∷ candidate ∷ entry .institute ∷ codeOf (entry .category) ∷ []
 
--- the list with which the answer area begins after an accepted allotment of the file passes, whatever areas that call was lent
+-- the list with which the answer area begins after an accepted allotment of the file, whatever areas that call was lent, passes unless the review is
+-- refused, which it is for its work area alone
 unfoldable pub UnitsListPasses : List ℕ → List ℕ → List ℕ → Type 0
 UnitsListPasses file list work =
     (answer workThen : List ℕ) → Accepted file answer workThen →
