@@ -5,4 +5,3 @@ pub mod Types
 pub mod Promise
 pub mod Writing
 pub mod Handing
-pub mod Export

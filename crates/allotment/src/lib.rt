@@ -2,7 +2,6 @@
 mod areas;
 mod call;
 mod closing;
-mod export;
 
 pub use call::allot;
 

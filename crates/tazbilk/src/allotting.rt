@@ -1,11 +1,11 @@
-// The call for C and Rust.
-use crate::Answer;
-use crate::call::allot;
+// The allotment, called from C and Rust.
+use allotment::Answer;
+use allotment::allot;
 ghost use mathlib.Core.Path.{_≡_};
-ghost use Rattle.allotment.specs.Export.{numbersOf, Exported};
+ghost use Rattle.tazbilk.specs.Allotting.{numbersOf, Exported};
 
 // The three numbers of an answer.
-fn numbers(told: Answer) -> [u64; 3]
+fn allot_numbers(told: Answer) -> [u64; 3]
     ensures { λ r. ⌜ r ≡ numbersOf told ⌝ }
 {
     match told {
@@ -25,5 +25,5 @@ pub extern "C" fn tazbilk_allot(
     ensures { λ _. ⌜ Exported (now (file .entry)) (now (answer .entry)) (now (work .entry))
         (now (result .exit)) (now (answer .exit)) (now (work .exit)) ⌝ }
 {
-    *result = numbers(allot(file, answer, work));
+    *result = allot_numbers(allot(file, answer, work));
 }

@@ -1,0 +1,2 @@
+// The unit's calls for C and Rust, in one archive.
+mod allotting;
