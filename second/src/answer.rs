@@ -22,7 +22,7 @@ impl From<Refusal> for Outcome {
 }
 
 /// The refusal of areas that are too small.
-const TOO_SMALL: Refusal = Refusal {
+pub(crate) const TOO_SMALL: Refusal = Refusal {
     number: 14,
     offset: 0,
 };

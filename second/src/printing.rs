@@ -1,8 +1,9 @@
-//! What the program prints for a round file.
+//! What the program prints for a round file, and for a hand-made list.
 
 use crate::choice::Document;
 use crate::offers::allot;
-use crate::reading::read;
+use crate::reading::{read, MOST_CANDIDATES};
+use crate::review::{review, Review};
 use std::fmt::Write;
 
 /// The whole text printed for a file: offers, seats with their types and closing places, or the refusal.
@@ -26,4 +27,18 @@ pub fn print(file: &[u8]) -> String {
         text.push('\n');
     }
     text
+}
+
+/// The line printed for a list: that it passes, the candidate whose seat is wrong, the candidate and the entry that would be taken, or the refusal.
+pub fn print_review(file: &[u8], list: &[u8]) -> String {
+    match review(file, list, &mut [0; 8 * MOST_CANDIDATES]) {
+        Review::Passes => "passes\n".to_string(),
+        Review::Wrong(candidate) => format!("seat of {candidate}\n"),
+        Review::WouldTake {
+            candidate,
+            institute,
+            code,
+        } => format!("entry of {candidate}: {institute} {code}\n"),
+        Review::Refused { number, offset } => format!("refused {number} at {offset}\n"),
+    }
 }

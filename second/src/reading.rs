@@ -3,6 +3,9 @@
 /// The number of bytes of the longest lawful file.
 pub const LONGEST: usize = 55_372;
 
+/// The most candidates of a round.
+pub const MOST_CANDIDATES: usize = 512;
+
 /// The category code of open.
 pub const OPEN: u8 = 0;
 
@@ -123,7 +126,8 @@ pub fn read(file: &[u8]) -> Result<Round, Refusal> {
     let head = reader.record(1, |length| length == 8)?;
     let numbers = head.numbers();
     let (n, m, types, policy) = (numbers[0], numbers[1], numbers[2], numbers[3]);
-    let in_range = (1..=512).contains(&n) && (1..=32).contains(&m) && types <= 8 && policy <= 1;
+    let in_range =
+        (1..=MOST_CANDIDATES).contains(&n) && (1..=32).contains(&m) && types <= 8 && policy <= 1;
     head.ask(5, in_range)?;
 
     let mut institutes = Vec::new();

@@ -1,5 +1,7 @@
 //! Demand 3 run over thousands of tiny rounds, and the wrong rules it turns back.
 
+mod arrangements;
+mod stability;
 mod statements;
 mod tiny;
 mod words;
@@ -12,6 +14,7 @@ use second::random::Random;
 use second::reading::{read, Round};
 use second::writing::write;
 use second::{call_on, Outcome};
+use stability::subset;
 use statements::{
     any_order, choice_is_one, completion_agrees_in_the_run, completion_is_one,
     held_and_new_suffice, held_once, stable, truthful, Found,
@@ -120,7 +123,7 @@ fn same_choice<R: Rule + ?Sized>(round: &Round, rule: &R, random: &mut Random) -
     for institute in 0..round.institutes.len() {
         let all = statements::lawful_offers(round, institute, random);
         for bits in 0..1usize << all.len() {
-            let set = statements::subset(&all, bits);
+            let set = subset(&all, bits);
             if rule.choose(round, institute, &set) != Words.choose(round, institute, &set) {
                 return Err(format!("another choice from {set:?}: {round:?}"));
             }

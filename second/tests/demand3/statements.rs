@@ -1,7 +1,9 @@
 //! Demand 3 and what it rests on, as statements about one round; each tells the counterexample it finds.
 
+use crate::arrangements::arrangements;
+use crate::stability::{offers_of, rank, subset, unstable};
 use crate::tiny::{lawful_entries, some_row};
-use second::choice::{category_of, Offer, Rule, Taken};
+use second::choice::{Offer, Rule, Taken};
 use second::offers::{Process, Seat};
 use second::orders::{ended, Order};
 use second::random::Random;
@@ -13,44 +15,11 @@ pub type Found = Result<(), String>;
 /// The list an allotment of a round gives: each candidate's seat.
 pub type Lister<'a> = &'a dyn Fn(&Round) -> Vec<Option<Seat>>;
 
-/// The entry a seat stands for.
-fn entry_of(seat: Seat) -> Entry {
-    Entry {
-        institute: seat.institute,
-        category: category_of(seat.step),
-    }
-}
-
-/// The place of a seat in a row: that of its entry, below all entries where there is none, below that where the entry is not in the row.
-fn rank(row: &[Entry], seat: Option<Seat>) -> usize {
-    match seat {
-        None => row.len(),
-        Some(seat) => row
-            .iter()
-            .position(|&entry| entry == entry_of(seat))
-            .unwrap_or(row.len() + 1),
-    }
-}
-
-/// All rows over these entries, of any length and in any order.
-fn all_rows(entries: &[Entry]) -> Vec<Vec<Entry>> {
-    let mut rows = vec![Vec::new()];
-    for (place, &first) in entries.iter().enumerate() {
-        let mut others = entries.to_vec();
-        others.remove(place);
-        for mut row in all_rows(&others) {
-            row.insert(0, first);
-            rows.push(row);
-        }
-    }
-    rows
-}
-
 /// The rows a candidate might give instead: all of them where there are at most four entries, else some.
 fn other_rows(random: &mut Random, code: u8, institutes: usize) -> Vec<Vec<Entry>> {
     let entries = lawful_entries(code, institutes);
     if entries.len() <= 4 {
-        all_rows(&entries)
+        arrangements(&entries)
     } else {
         (0..40).map(|_| some_row(random, entries.clone())).collect()
     }
@@ -77,110 +46,12 @@ pub fn truthful(round: &Round, list: Lister, random: &mut Random) -> Found {
     Ok(())
 }
 
-/// The offers an institute might get: each candidate with each entry of the row that names it.
-fn listed_offers(round: &Round, institute: usize) -> Vec<Offer> {
-    let mut offers = Vec::new();
-    for (candidate, one) in round.candidates.iter().enumerate() {
-        for entry in &one.row {
-            if entry.institute == institute {
-                offers.push(Offer {
-                    candidate,
-                    category: entry.category,
-                });
-            }
-        }
-    }
-    offers.sort();
-    offers
-}
-
-/// The offers of those taken.
-fn offers_of(taken: &[Taken]) -> Vec<Offer> {
-    let mut offers: Vec<Offer> = taken.iter().map(|one| one.offer).collect();
-    offers.sort();
-    offers
-}
-
-/// The subset of a list that the bits of a number pick.
-pub fn subset(list: &[Offer], bits: usize) -> Vec<Offer> {
-    (0..list.len())
-        .filter(|place| bits >> place & 1 == 1)
-        .map(|place| list[place])
-        .collect()
-}
-
-/// Two sets of offers together.
-fn together(one: &[Offer], other: &[Offer]) -> Vec<Offer> {
-    let mut all = [one, other].concat();
-    all.sort();
-    all.dedup();
-    all
-}
-
-/// The offers of those taken, each with its step.
-fn steps_of(taken: &[Taken]) -> Vec<(Offer, u8)> {
-    taken.iter().map(|one| (one.offer, one.step)).collect()
-}
-
-/// The seats an institute gave, as offers with their steps.
-fn given(seats: &[Option<Seat>], institute: usize) -> Vec<(Offer, u8)> {
-    let mut given = Vec::new();
-    for (candidate, seat) in seats.iter().enumerate() {
-        if let Some(seat) = seat.filter(|seat| seat.institute == institute) {
-            let category = category_of(seat.step);
-            let offer = Offer {
-                candidate,
-                category,
-            };
-            given.push((offer, seat.step));
-        }
-    }
-    given
-}
-
-/// Whether an offer's entry stands later in its candidate's row than the candidate's seat does; where the candidate has no seat, no offer does.
-fn ranks_below(round: &Round, institute: usize, offer: Offer, seats: &[Option<Seat>]) -> bool {
-    let row = &round.candidates[offer.candidate].row;
-    let offered = row
-        .iter()
-        .position(|entry| entry.institute == institute && entry.category == offer.category);
-    match (offered, seats[offer.candidate]) {
-        (Some(offered), Some(seat)) => offered > rank(row, Some(seat)),
-        _ => false,
-    }
-}
-
 /// Statement 2: the list is stable.
 pub fn stable<R: Rule + ?Sized>(round: &Round, rule: &R, seats: &[Option<Seat>]) -> Found {
-    for (candidate, &seat) in seats.iter().enumerate() {
-        let row = &round.candidates[candidate].row;
-        if seat.is_some() && rank(row, seat) >= row.len() {
-            return Err(format!("a seat not listed: {round:?}"));
-        }
+    match unstable(round, rule, seats) {
+        None => Ok(()),
+        Some(why) => Err(format!("{why}: {round:?}")),
     }
-    for institute in 0..round.institutes.len() {
-        let given = given(seats, institute);
-        let own: Vec<Offer> = given.iter().map(|&(offer, _)| offer).collect();
-        if steps_of(&rule.choose(round, institute, &own)) != given {
-            return Err(format!("other seats from just those given: {round:?}"));
-        }
-        let listed = listed_offers(round, institute);
-        for bits in 0..1 << listed.len() {
-            let set = subset(&listed, bits);
-            if set == own {
-                continue;
-            }
-            let chosen = offers_of(&rule.choose(round, institute, &together(&set, &own)));
-            let below = |&offer: &Offer| ranks_below(round, institute, offer, seats);
-            if chosen == set && !set.iter().any(below) {
-                return Err(format!(
-                    "institute {} would choose {set:?}: {round:?}",
-                    institute + 1
-                ));
-            }
-        }
-    }
-    Ok(())
 }
 
 /// Statement 3: any order of going gives the same offers, seats, steps, closing places and types.

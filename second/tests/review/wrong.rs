@@ -1,0 +1,213 @@
+//! The wrong reviews, and the lists that catch them.
+
+use crate::lists::{how_many, list_of};
+use crate::looks::{Look, Over};
+use crate::remembered::Remembered;
+use crate::tiny::tiny;
+use crate::with_few_lists;
+use crate::worked::cases;
+use second::choice::Document;
+use second::reading::read;
+use second::review::found;
+use second::Review;
+
+/// How many tiny rounds a wrong review is run over, as far as they have few lists.
+const ROUNDS: u64 = 400;
+
+/// The most lists of such a round.
+const LISTS: usize = 2000;
+
+/// In how many lists of tiny rounds a wrong review answers otherwise, and in how many of these it passes a list that does not pass or does not pass one that does.
+fn counted(look: Look) -> (usize, usize) {
+    let mut counts = (0, 0);
+    for (round, pairs) in with_few_lists((0..ROUNDS).map(tiny), LISTS) {
+        let rule = &Remembered::default();
+        for number in 0..how_many(&pairs) {
+            let list = &list_of(&pairs, number)[..];
+            let wrong = Over {
+                look,
+                round: &round,
+                rule,
+                list,
+            };
+            let both = [found(&round, list), wrong.answer()];
+            let passes = both.map(|review| review == Review::Passes);
+            counts.0 += usize::from(both[0] != both[1]);
+            counts.1 += usize::from(passes[0] != passes[1]);
+        }
+    }
+    counts
+}
+
+/// The worked lists, not refused, in which a wrong review answers otherwise.
+fn named(look: Look) -> Vec<String> {
+    let mut names = Vec::new();
+    for case in cases()
+        .iter()
+        .filter(|case| !case.expected.starts_with("refused"))
+    {
+        let round = read(&case.file).expect("a lawful round");
+        let wrong = Over {
+            look,
+            round: &round,
+            rule: &Document,
+            list: &case.list,
+        };
+        if wrong.answer() != found(&round, &case.list) {
+            names.push(case.name.clone());
+        }
+    }
+    names
+}
+
+/// Asserts in how many lists, in how many by what passes, and in which worked lists a wrong review is caught.
+fn caught(look: Look, lists: usize, passing: usize, names: &[&str]) {
+    assert_eq!(counted(look), (lists, passing));
+    assert_eq!(named(look), names);
+}
+
+#[test]
+fn the_lists_are_these_many() {
+    let counts = with_few_lists((0..ROUNDS).map(tiny), LISTS).map(|(_, pairs)| how_many(&pairs));
+    let counts: Vec<usize> = counts.collect();
+    assert_eq!((counts.len(), counts.iter().sum()), (145, 143_755));
+}
+
+#[test]
+fn passing_every_list_is_caught() {
+    caught(
+        Look::PassesAll,
+        143_582,
+        143_582,
+        &[
+            "first-of-two",
+            "institute-2-of-1",
+            "left-out-of-obc",
+            "never-moved",
+            "nobody",
+            "not-in-row",
+            "one-at-a-time",
+            "own-seat-beside",
+            "right-institute-wrong-step",
+            "step-0",
+            "step-6-policy-0",
+            "step-7",
+        ],
+    );
+}
+
+#[test]
+fn looking_at_the_first_entry_only_is_caught() {
+    caught(Look::FirstEntryOnly, 180, 131, &["left-out-of-obc"]);
+}
+
+#[test]
+fn choosing_from_all_listed_seats_is_caught() {
+    caught(Look::AllListed, 117, 0, &["not-in-row"]);
+}
+
+#[test]
+fn ignoring_steps_is_caught() {
+    caught(
+        Look::NoSteps,
+        6903,
+        248,
+        &["first-of-two", "right-institute-wrong-step"],
+    );
+}
+
+#[test]
+fn naming_the_last_candidate_is_caught() {
+    caught(
+        Look::LastNamed,
+        129_163,
+        0,
+        &[
+            "first-of-two",
+            "nobody",
+            "own-seat-beside",
+            "step-6-policy-0",
+        ],
+    );
+}
+
+#[test]
+fn adding_all_entries_at_once_is_caught() {
+    caught(Look::AllAtOnce, 55, 0, &["one-at-a-time"]);
+}
+
+#[test]
+fn reading_step_6_under_policy_0_as_not_in_the_row_is_caught() {
+    caught(Look::NoStep6, 96, 0, &["step-6-policy-0"]);
+}
+
+#[test]
+fn asking_whether_the_candidate_is_taken_at_all_is_caught() {
+    caught(Look::TakenAtAll, 119, 67, &["another-that-passes", "own"]);
+}
+
+#[test]
+fn naming_the_worst_entry_is_caught() {
+    caught(Look::WorstNamed, 134, 0, &["one-at-a-time"]);
+}
+
+#[test]
+fn taking_the_own_seat_away_is_caught() {
+    caught(Look::OwnSeatAway, 48, 27, &["another-that-passes", "own"]);
+}
+
+#[test]
+fn looking_at_all_rows_before_the_steps_is_caught() {
+    caught(Look::RowsFirst, 19_998, 0, &["first-of-two"]);
+}
+
+#[test]
+fn looking_at_entries_before_the_seats_of_those_behind_is_caught() {
+    caught(
+        Look::OneByOne,
+        7015,
+        0,
+        &[
+            "institute-2-of-1",
+            "right-institute-wrong-step",
+            "step-0",
+            "step-7",
+        ],
+    );
+}
+
+#[test]
+fn looking_at_entries_below_the_seat_too_is_caught() {
+    caught(Look::BelowToo, 83, 40, &["below-the-seat"]);
+}
+
+#[test]
+fn reading_what_is_no_seat_as_none_is_caught() {
+    caught(
+        Look::ReadAsNone,
+        91_982,
+        6699,
+        &["institute-2-of-1", "step-0", "step-7"],
+    );
+}
+
+#[test]
+fn faulting_those_without_a_seat_is_caught() {
+    caught(
+        Look::NoneAtFault,
+        10_075,
+        131,
+        &[
+            "institute-2-of-1",
+            "left-out-of-obc",
+            "never-moved",
+            "nobody",
+            "one-at-a-time",
+            "own",
+            "own-seat-beside",
+            "right-institute-wrong-step",
+            "step-0",
+            "step-7",
+        ],
+    );
+}
