@@ -22,5 +22,5 @@ made() {
     fi
 }
 
-made allotment "half a minute, or three minutes where nothing is proved yet" || return 1
+made tazbilk "half a minute, or three minutes where nothing is proved yet" || return 1
 made probe "some seconds" || return 1

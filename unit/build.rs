@@ -9,16 +9,16 @@ const FOLDER: &str = "../target/staticlib";
 fn main() {
     let here = std::env::var("CARGO_MANIFEST_DIR").unwrap_or_default();
     let folder = Path::new(&here).join(FOLDER);
-    let archive = folder.join("liballotment.a");
+    let archive = folder.join("libtazbilk.a");
     println!("cargo:rerun-if-changed=build.rs");
     println!("cargo:rerun-if-changed={}", archive.display());
     if !archive.exists() {
         eprintln!(
-            "\nmissing: target/staticlib/liballotment.a.\n\
-             Run `rt staticlib allotment` in the root of the repository (rt is the command of the Rattle kit)."
+            "\nmissing: target/staticlib/libtazbilk.a.\n\
+             Run `rt staticlib tazbilk` in the root of the repository (rt is the command of the Rattle kit)."
         );
         exit(1);
     }
     println!("cargo:rustc-link-search=native={}", folder.display());
-    println!("cargo:rustc-link-lib=static=allotment");
+    println!("cargo:rustc-link-lib=static=tazbilk");
 }

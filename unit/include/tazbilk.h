@@ -1,5 +1,5 @@
-/* The seat-allotment unit, called from C. Link target/staticlib/liballotment.a (`rt staticlib allotment`).
-   The call never fails, keeps no pointer and needs nothing set up before. A pointer is never null, even where its length is
+/* The seat-allotment unit, called from C. Link target/staticlib/libtazbilk.a (`rt staticlib tazbilk`).
+   A call never fails, keeps no pointer and needs nothing set up before. A pointer is never null, even where its length is
    0, and what is written overlaps nothing else. */
 #ifndef TAZBILK_H
 #define TAZBILK_H
@@ -11,14 +11,16 @@
 extern "C" {
 #endif
 
-/* The bytes of the areas that a round of n candidates and m institutes needs. */
+/* The bytes of the areas that a round of n candidates and m institutes needs, and of a list under review. */
 #define TAZBILK_ANSWER_SIZE(n, m) (3 * (size_t)(n) + 12 * (size_t)(m))
 #define TAZBILK_WORK_SIZE(n) (8 * (size_t)(n))
+#define TAZBILK_LIST_SIZE(n) (2 * (size_t)(n))
 
-/* The bytes that suffice for every round, and those of the longest lawful file. */
+/* The bytes that suffice for every round, and those of the longest lawful file and list. */
 #define TAZBILK_ANSWER_MOST TAZBILK_ANSWER_SIZE(512, 32)
 #define TAZBILK_WORK_MOST TAZBILK_WORK_SIZE(512)
 #define TAZBILK_FILE_MOST 55372
+#define TAZBILK_LIST_MOST TAZBILK_LIST_SIZE(512)
 
 /* Allots the seats of a round file. The result is 0, the number of offers, 0 where it is allotted, and 1, the number of the
    question, the byte offset where it is refused; line N of unit/meanings.txt says what a refusal with number N means. Any
@@ -31,6 +33,20 @@ void tazbilk_allot(const uint8_t *file, size_t file_len,
                    uint8_t *answer, size_t answer_len,
                    uint8_t *work, size_t work_len,
                    uint64_t result[3]);
+
+/* Reviews a list of seats for a round file, two bytes for each candidate, institute and step (0 0 for none). The result is
+   0, 0, 0, 0 where the list passes, which it does just where it is stable;
+   1, the number of the question, the byte offset, 0 where it is refused: after the questions about the file, by 15 at 0 where the
+   list does not have exactly 2n bytes, then by 14 at 0 where the work area has fewer than 8n;
+   2, candidate, 0, 0 for the first candidate whose seat is not in the row, or whose step is not the one the institute gives when it
+   chooses from the listed seats that are in their rows;
+   3, candidate, institute, code, where there is no such candidate, for the first candidate and best entry ranked above the seat which
+   the institute would choose if that one entry were added.
+   Any file and list and a work area of any length are taken. */
+void tazbilk_review(const uint8_t *file, size_t file_len,
+                    const uint8_t *list, size_t list_len,
+                    uint8_t *work, size_t work_len,
+                    uint64_t result[4]);
 
 #ifdef __cplusplus
 }

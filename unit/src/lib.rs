@@ -14,14 +14,33 @@
 //! # assert_eq!((said.to_string().as_str(), &answer[4..6], types[2]), ("offers 4", &[1, 1][..], 1));
 //! # Ok::<(), std::io::Error>(())
 //! ```
+//!
+//! A list of seats that was made elsewhere, two bytes for each candidate, institute and step (0 0 for none), can be reviewed: it passes
+//! just where it is stable, and otherwise what is found first is named.
+//!
+//! ```
+//! use tazbilk::Judgement;
+//!
+//! let file = std::fs::read("../rounds/a.round")?;
+//! let list = [1, 6, 0, 0, 1, 1]; // candidate 1: institute 1, step 6; 2: no seat; 3: institute 1, step 1
+//! let said = tazbilk::review(&file, &list, &mut [0; tazbilk::WORK_MOST]);
+//! println!("{said}"); // entry of 2: 1 3, so institute 1 would take candidate 2 under code 3
+//! # assert_eq!(said.to_string(), "entry of 2: 1 3");
+//! assert_eq!(said, Judgement::BetterEntry { candidate: 2, institute: 1, code: 3 });
+//! # Ok::<(), std::io::Error>(())
+//! ```
 
 mod allotting;
 mod answer;
 mod boundary;
+mod judgement;
 mod refusal;
+mod reviewing;
 mod sizes;
 
 pub use allotting::allot;
 pub use answer::Answer;
+pub use judgement::Judgement;
 pub use refusal::Refusal;
-pub use sizes::{answer_size, work_size, ANSWER_MOST, FILE_MOST, WORK_MOST};
+pub use reviewing::review;
+pub use sizes::{answer_size, list_size, work_size, ANSWER_MOST, FILE_MOST, LIST_MOST, WORK_MOST};
