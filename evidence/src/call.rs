@@ -114,6 +114,7 @@ fn compare_with(
             lengths.answer, lengths.work
         ),
         input: file.to_vec(),
+        list: None,
         unit,
         second: text(&due, &due_answer, &due_work, (&answer, &work)),
     };

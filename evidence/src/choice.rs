@@ -215,6 +215,7 @@ pub fn compare(random: &mut Random, case: &Case) -> (Came, Option<Difference>) {
             case.offers.len()
         ),
         input: [body, case.marks.clone(), case.offers.clone()].concat(),
+        list: None,
         unit: both(&steps, &types, (&due_steps, &due_types)),
         second: both(&due_steps, &due_types, (&steps, &types)),
     };

@@ -46,7 +46,7 @@ impl Run {
     }
 
     /// So many files of a class, others for each name.
-    fn made_for(&self, name: &str, made: Made, count: usize) -> impl Iterator<Item = Vec<u8>> {
+    pub fn made_for(&self, name: &str, made: Made, count: usize) -> impl Iterator<Item = Vec<u8>> {
         let mut random = self.random(name);
         let fixed = made.fixed();
         (0..count as u64).map(move |number| {
@@ -204,7 +204,7 @@ impl Run {
 }
 
 /// The lengths around a bound: none, one less, just so, one more, many more, and two below it.
-fn around(random: &mut Random, bound: usize) -> [usize; 7] {
+pub fn around(random: &mut Random, bound: usize) -> [usize; 7] {
     [
         0,
         bound - 1,

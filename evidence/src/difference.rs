@@ -3,35 +3,42 @@
 use crate::area::Area;
 use std::fmt::Write;
 
-/// What was asked, the bytes it was asked of, and what each gave.
+/// What was asked, the bytes it was asked of, with the list that a review was asked of, and what each gave.
 pub struct Difference {
     pub asked: String,
     pub input: Vec<u8>,
+    pub list: Option<Vec<u8>>,
     pub unit: String,
     pub second: String,
 }
 
-/// As many input bytes are printed; a longer input is whole in its file only.
+/// As many bytes of an input or a list are printed; a longer one is whole in its file only.
 const PRINTED: usize = 4096;
 
 impl Difference {
     /// The whole case as text.
     pub fn text(&self) -> String {
-        let shown = &self.input[..self.input.len().min(PRINTED)];
         let mut text = format!(
-            "  asked:  {}\n  unit:   {}\n  second: {}\n  input, {} bytes:\n",
-            self.asked,
-            self.unit,
-            self.second,
-            self.input.len()
+            "  asked:  {}\n  unit:   {}\n  second: {}\n",
+            self.asked, self.unit, self.second
         );
-        for line in shown.chunks(32) {
-            let _ = writeln!(text, "    {}", hex(line));
-        }
-        if shown.len() < self.input.len() {
-            let _ = writeln!(text, "    .. and {} more", self.input.len() - shown.len());
+        put_bytes(&mut text, "input", &self.input);
+        if let Some(list) = &self.list {
+            put_bytes(&mut text, "list", list);
         }
         text
+    }
+}
+
+/// Adds bytes under their name to a text.
+fn put_bytes(text: &mut String, name: &str, bytes: &[u8]) {
+    let shown = &bytes[..bytes.len().min(PRINTED)];
+    let _ = writeln!(text, "  {name}, {} bytes:", bytes.len());
+    for line in shown.chunks(32) {
+        let _ = writeln!(text, "    {}", hex(line));
+    }
+    if shown.len() < bytes.len() {
+        let _ = writeln!(text, "    .. and {} more", bytes.len() - shown.len());
     }
 }
 

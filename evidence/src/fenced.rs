@@ -8,12 +8,12 @@ use crate::fence::{Fence, Side};
 use crate::files::{cut_and_extended, Made};
 use crate::probe;
 use crate::tally::{Came, Tally};
+use crate::telling::Told;
 use second::answer::{call_on, Outcome};
 use second::generate::{boundary, Class};
 use second::reading::read;
 use std::io::{self, Write};
 use std::path::Path;
-use std::process::{Command, Stdio};
 use tazbilk::{Answer, Refusal};
 
 /// The name of the class.
@@ -109,55 +109,23 @@ fn choices(run: &Run, random: &mut second::random::Random) -> io::Result<()> {
     Ok(())
 }
 
-/// Has this program make the calls in a process of its own, by the word `--fenced`, and counts what it tells.
+/// Has this program make the calls in a process of its own, and counts what it tells.
 pub fn class(run: &Run, folder: &Path) -> Tally {
     let files = files(run, folder);
     let mut tally = Tally::new(NAME, files.len(), run.long);
-    let told = std::env::current_exe().and_then(|path| {
-        let mut command = Command::new(path);
-        command.args(["--fenced", "--seed", &run.seed.to_string(), "--rounds"]);
-        command.arg(folder);
-        if run.long {
-            command.arg("--long");
-        }
-        command.stderr(Stdio::inherit()).output()
-    });
-    let (text, status) = match told {
-        Ok(output) => (
-            String::from_utf8_lossy(&output.stdout).into_owned(),
-            output.status.to_string(),
-        ),
-        Err(error) => (String::new(), error.to_string()),
-    };
-    let lines: Vec<&str> = text.lines().collect();
-    let ended = lines.last() == Some(&"end");
-    let different = |line: &str| Difference {
-        asked: "calls on bytes beside pages that nothing may touch".to_string(),
-        input: line
-            .split(' ')
-            .next()
-            .and_then(|number| files.get(number.parse::<usize>().ok()?))
-            .cloned()
-            .unwrap_or_default(),
-        unit: if line.contains("differs") {
-            line.to_string()
-        } else {
-            format!("the process ended ({status}) in this call or one of its choices")
-        },
-        second: "as on any other bytes".to_string(),
-    };
+    let told = Told::of(run, folder, NAME);
     for (number, file) in files.iter().enumerate() {
         let came = match read(file) {
             Ok(_) => Came::Accepted,
             Err(refusal) => Came::Refused(usize::from(refusal.number)),
         };
-        let word = format!("{number} differs");
-        let line = lines.iter().find(|line| line.starts_with(&word));
-        let last = number + 1 == files.len() && !ended;
-        let difference = match line {
-            Some(line) => Some(different(line)),
-            None => last.then(|| different(lines.last().unwrap_or(&""))),
-        };
+        let difference = told.wrong(number).map(|unit| Difference {
+            asked: "calls on bytes beside pages that nothing may touch".to_string(),
+            input: file.clone(),
+            list: None,
+            unit,
+            second: "as on any other bytes".to_string(),
+        });
         tally.count(came, difference);
     }
     tally

@@ -27,6 +27,8 @@ pub enum Made {
     Worst(usize),
     /// A round of so many candidates with several types each and every position reserved.
     Types(usize),
+    /// The round of so many candidates with one row and one merit list.
+    Alike(usize),
     /// Files made for one refusal.
     Refused(u8),
     /// Files with two faults.
@@ -46,6 +48,7 @@ impl Made {
             Made::Rows(entries) => format!("rows-{entries}"),
             Made::Worst(n) => format!("worst-{n}"),
             Made::Types(n) => format!("types-{n}"),
+            Made::Alike(n) => format!("alike-{n}"),
             Made::Refused(number) => format!("refused-{number}"),
             Made::TwoFaults => "two-faults".to_string(),
             Made::Torn => "torn".to_string(),
@@ -71,6 +74,7 @@ impl Made {
             Made::Rows(entries) => write(&shapes::short_rows(512, entries, seed)),
             Made::Worst(n) => write(&shapes::worst(n, seed)),
             Made::Types(n) => write(&shapes::types(n, seed)),
+            Made::Alike(n) => write(&shapes::alike(n)),
             Made::Refused(number) => damaged(number, seed).file,
             Made::TwoFaults => two_faults(seed).file,
             Made::Torn => torn(seed),

@@ -1,17 +1,20 @@
-//! The unit and the second program timed on the same files.
+//! The unit and the second program timed on the same files, and on the same lists.
 
 use crate::files::Made;
+use crate::lists::{candidates, own};
 use crate::timing::{time, Time};
 use second::generate::Class;
+use second::list::{said, Said};
+use second::reading::read;
 use std::time::Duration;
 use tazbilk::{Answer, ANSWER_MOST, WORK_MOST};
 
-/// What was measured of a class: the means over its files of their medians and bests.
+/// What was measured of a class: the means over its files of the offers made, or of the entries that a review tries, and of their medians and bests.
 pub struct Measured {
     pub name: String,
     pub n: usize,
     pub files: usize,
-    pub offers: f64,
+    pub made: f64,
     pub unit: Time,
     pub second: Time,
 }
@@ -61,37 +64,98 @@ pub fn lengthening() -> Vec<(String, Made, Vec<u64>)> {
     series([2, 4, 8, 16].map(Made::Rows))
 }
 
+/// The classes whose own lists are reviewed, with the seeds of their files.
+pub fn reviews() -> Vec<(String, Made, Vec<u64>)> {
+    let mut reviewed: Vec<_> = classes()
+        .into_iter()
+        .filter(|(name, _, _)| {
+            [
+                "mid",
+                "maximal",
+                "contested",
+                "worst, behind",
+                "types, apart",
+            ]
+            .contains(&name.as_str())
+        })
+        .collect();
+    reviewed.push(("alike".to_string(), Made::Alike(512), vec![0]));
+    reviewed
+}
+
 /// The time given to the files of a class together, for each of the two.
 const BUDGET: Duration = Duration::from_secs(2);
 
-/// Times the files of a class, one after the other, the unit and the second program in turn.
-pub fn measure(name: &str, made: Made, seeds: &[u64]) -> Measured {
+/// What was measured of one file.
+struct Case {
+    n: usize,
+    made: usize,
+    unit: Time,
+    second: Time,
+}
+
+/// Measures the files of a class one after the other.
+fn measured(
+    name: &str,
+    made: Made,
+    seeds: &[u64],
+    of: impl Fn(&[u8], Duration) -> Case,
+) -> Measured {
     let budget = BUDGET / seeds.len() as u32;
-    let (mut answer, mut work) = ([0; ANSWER_MOST], [0; WORK_MOST]);
-    let mut offers = 0;
-    let mut most = 0;
-    let (mut unit, mut second) = (Vec::new(), Vec::new());
-    for &seed in seeds {
-        let file = made.file(seed);
-        most = most.max(usize::from(file[4]) + 256 * usize::from(file[5]));
-        if let Answer::Allotted { offers: made } = tazbilk::allot(&file, &mut answer, &mut work) {
-            offers += made;
-        }
-        unit.push(time(budget, || {
-            tazbilk::allot(&file, &mut answer, &mut work)
-        }));
-        second.push(time(budget, || {
-            second::call_on(&file, &mut answer, &mut work)
-        }));
-    }
+    let cases: Vec<Case> = (seeds.iter())
+        .map(|&seed| of(&made.file(seed), budget))
+        .collect();
+    let all = |of: fn(&Case) -> Time| mean(&cases.iter().map(of).collect::<Vec<_>>());
     Measured {
         name: name.to_string(),
-        n: most,
+        n: cases.iter().map(|case| case.n).max().unwrap_or(0),
         files: seeds.len(),
-        offers: offers as f64 / seeds.len() as f64,
-        unit: mean(&unit),
-        second: mean(&second),
+        made: cases.iter().map(|case| case.made).sum::<usize>() as f64 / seeds.len() as f64,
+        unit: all(|case| case.unit),
+        second: all(|case| case.second),
     }
+}
+
+/// Times the allotment of the files of a class, the unit and the second program in turn.
+pub fn measure(name: &str, made: Made, seeds: &[u64]) -> Measured {
+    measured(name, made, seeds, |file, budget| {
+        let (mut answer, mut work) = ([0; ANSWER_MOST], [0; WORK_MOST]);
+        Case {
+            n: candidates(file),
+            made: match tazbilk::allot(file, &mut answer, &mut work) {
+                Answer::Allotted { offers } => offers,
+                Answer::Refused(_) => 0,
+            },
+            unit: time(budget, || tazbilk::allot(file, &mut answer, &mut work)),
+            second: time(budget, || second::call_on(file, &mut answer, &mut work)),
+        }
+    })
+}
+
+/// Times the review of the unit's own lists for the files of a class, the unit and the second program in turn.
+pub fn measure_review(name: &str, made: Made, seeds: &[u64]) -> Measured {
+    measured(name, made, seeds, |file, budget| {
+        let mut work = [0; WORK_MOST];
+        let list = own(file);
+        Case {
+            n: candidates(file),
+            made: entries_above(file, &list),
+            unit: time(budget, || tazbilk::review(file, &list, &mut work)),
+            second: time(budget, || second::review(file, &list, &mut work)),
+        }
+    })
+}
+
+/// The entries that rank above the seats of a list, all of which are tried where it passes.
+fn entries_above(file: &[u8], list: &[u8]) -> usize {
+    let Ok(round) = read(file) else { return 0 };
+    let rows = round.candidates.iter().map(|candidate| candidate.row.len());
+    (said(&round, list).iter().zip(rows))
+        .map(|(said, all)| match said {
+            Said::InRow { place, .. } => *place,
+            Said::NoSeat | Said::NotInRow => all,
+        })
+        .sum()
 }
 
 /// The means of medians and bests, and all calls together.

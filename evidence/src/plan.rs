@@ -84,6 +84,79 @@ pub fn verdicts(long: bool) -> Vec<(Made, usize)> {
     classes
 }
 
+/// The classes of lawful files for each class of lists with how many of each.
+pub fn lists(long: bool) -> Vec<(Made, usize)> {
+    let of = |short, more| if long { more } else { short };
+    vec![
+        (Made::Lawful(Class::Tiny), of(2_000, 6_000)),
+        (Made::Lawful(Class::Small), of(1_500, 4_000)),
+        (Made::Types(16), of(400, 1_200)),
+        (Made::Worst(16), of(200, 600)),
+        (Made::Lawful(Class::Mid), of(200, 1_500)),
+        (Made::Mixed, of(100, 1_000)),
+        (Made::Wide, of(100, 1_000)),
+        (Made::Types(64), of(20, 200)),
+        (Made::Contested(64), of(10, 100)),
+        (Made::Alike(64), of(10, 60)),
+        (Made::Alike(512), of(1, 4)),
+        (Made::Worst(128), of(3, 30)),
+        (Made::Lawful(Class::Maximal), of(3, 40)),
+        (Made::Lawful(Class::Crowded), of(1, 8)),
+        (Made::Lawful(Class::Contested), of(1, 8)),
+    ]
+}
+
+/// As many reviews of a list that is mended are made at most.
+pub const MENDED_MOST: usize = 200;
+
+/// The classes of lawful files whose lists are mended, with how many of each.
+pub fn mended(long: bool) -> Vec<(Made, usize)> {
+    let times = if long { 6 } else { 1 };
+    vec![
+        (Made::Lawful(Class::Tiny), 800 * times),
+        (Made::Lawful(Class::Small), 200 * times),
+        (Made::Types(16), 40 * times),
+        (Made::Lawful(Class::Mid), 4 * times),
+    ]
+}
+
+/// The classes of damaged files for reviews with how many of each.
+pub fn damaged_with_lists(long: bool) -> Vec<(Made, usize)> {
+    let times = if long { 8 } else { 1 };
+    let mut classes: Vec<(Made, usize)> = (1..=13)
+        .map(|number| (Made::Refused(number), 150 * times))
+        .collect();
+    classes.push((Made::TwoFaults, 400 * times));
+    classes.push((Made::Torn, 2_000 * times));
+    classes
+}
+
+/// The classes of files for lists and work areas of all lengths with how many of each.
+pub fn list_lengths(long: bool) -> Vec<(Made, usize)> {
+    let times = if long { 5 } else { 1 };
+    vec![
+        (Made::Lawful(Class::Tiny), 20 * times),
+        (Made::Lawful(Class::Small), 6 * times),
+        (Made::Lawful(Class::Mid), times),
+        (Made::TwoFaults, 6 * times),
+    ]
+}
+
+/// The classes of files whose reviews are fenced with how many of each.
+pub fn fenced_lists(long: bool) -> Vec<(Made, usize)> {
+    let times = if long { 8 } else { 1 };
+    let mut classes = vec![
+        (Made::Lawful(Class::Tiny), 800 * times),
+        (Made::Lawful(Class::Small), 400 * times),
+        (Made::Types(32), 40 * times),
+        (Made::Lawful(Class::Mid), 16 * times),
+        (Made::Torn, 400 * times),
+        (Made::Lawful(Class::Maximal), 2),
+    ];
+    classes.extend((1..=13).map(|number| (Made::Refused(number), 60 * times)));
+    classes
+}
+
 /// The classes of choices: a name, the least and the most places, and how many cases.
 pub fn choices(long: bool) -> Vec<(&'static str, (usize, usize), usize)> {
     let times = if long { 10 } else { 1 };

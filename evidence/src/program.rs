@@ -110,6 +110,7 @@ impl Program {
                 }
             },
             input: file.to_vec(),
+            list: None,
             unit: first_other_line(&said, &due),
             second: first_other_line(&due, &said),
         });
@@ -170,6 +171,7 @@ impl Program {
             let difference = (said != due).then(|| Difference {
                 asked: format!("the program, the worked round {}", path.display()),
                 input: file.clone(),
+                list: None,
                 unit: first_other_line(&said, &due),
                 second: first_other_line(&due, &said),
             });

@@ -284,6 +284,30 @@ fn behind_reserved(places: usize) -> Vec<usize> {
     reserved
 }
 
+/// A round of n candidates, a multiple of 32, whose reviews try many entries: all are OBC, list the open and the OBC entry of eight institutes in one order and stand on all merit lists in one order, and half of them get seats, the positions and marks of each step being like those of the one behind.
+pub fn alike(n: usize) -> Round {
+    let each = n / 32;
+    let mut institute = bare(8);
+    for category in [OPEN, OBC] {
+        let reserved = behind_reserved(each);
+        put(&mut institute, usize::from(category), each, reserved);
+    }
+    let candidates = (0..n)
+        .map(|number| Candidate {
+            code: OBC,
+            marks: behind_marks((n - 1 - number) % each, each),
+            row: entries(8, OBC),
+        })
+        .collect();
+    Round {
+        types: 8,
+        policy: 1,
+        institutes: vec![institute; 8],
+        candidates,
+        merit: vec![(0..n).rev().collect(); 8],
+    }
+}
+
 /// The marks at a merit place of the chain: as many as a type has positions of types 1 and 2, as many of types 2 and 3 and so on to type 8 fill types 1 to 7, half as many of types 8 and 1 half of type 8; then the other half, of type 1 alone, each move one holder of every type, and everybody behind them searches all eight in vain.
 fn chain_marks(place: usize, each: usize) -> u8 {
     match 2 * place / each {

@@ -4,9 +4,11 @@
 
 use crate::choice::Case;
 use crate::files::Made;
+use crate::lists::{own, Listed};
 use crate::probe;
 use second::generate::Class;
 use second::random::Random;
+use second::reading::read;
 use std::arch::asm;
 use tazbilk::{ANSWER_MOST, WORK_MOST};
 
@@ -72,6 +74,27 @@ fn files() -> Vec<Vec<u8>> {
     files
 }
 
+/// The greatest stack of the reviews for these files of the unit's own lists and of one list of each other class.
+fn greatest_review(files: &[Vec<u8>]) -> usize {
+    let mut random = Random::new(1);
+    let mut work = [0; WORK_MOST];
+    let mut most = 0;
+    for file in files {
+        let lists: Vec<Vec<u8>> = match read(file) {
+            Ok(round) => Listed::ALL
+                .map(|listed| listed.list(&mut random, &round, file))
+                .into(),
+            Err(_) => vec![own(file)],
+        };
+        for list in lists {
+            most = most.max(depth(&mut || {
+                tazbilk::review(file, &list, &mut work);
+            }));
+        }
+    }
+    most
+}
+
 /// What was measured, as lines of text.
 pub fn text() -> String {
     let nothing = depth(&mut || {});
@@ -86,6 +109,7 @@ pub fn text() -> String {
     let verdict = greatest(&files, |file| {
         let _ = probe::verdict(file);
     });
+    let review = greatest_review(&files);
     let mut random = Random::new(1);
     let mut choose = 0;
     for number in 0..400 {
@@ -107,8 +131,9 @@ pub fn text() -> String {
     }
     format!(
         "Each call is run on a stack of its own that a pattern fills beforehand; the lowest byte changed tells how deep it went. The\n\
-         greatest over {} files of all classes, the worst and the refused ones among them, in bytes: allot {allot}, verdict {verdict}; over\n\
-         400 single choices: choose {choose}. A call of nothing takes {nothing}, which is counted in, and so is the wrapper.\n",
+         greatest over {} files of all classes, the worst and the refused ones among them, in bytes: allot {allot}, review {review},\n\
+         of the unit's own lists and others, verdict {verdict}; over 400 single choices: choose {choose}. A call of nothing takes\n\
+         {nothing}, which is counted in, and so is the wrapper.\n",
         files.len()
     )
 }

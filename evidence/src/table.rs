@@ -12,20 +12,20 @@ fn short(number: f64) -> String {
     }
 }
 
-/// The lines of a table.
-fn table(rows: &[Measured]) -> String {
-    let mut text = String::from(
-        "| class | n | offers | calls timed, unit / second | unit, median µs | unit, best µs | unit, offers a second | second, median µs | second, best µs | second, offers a second | second / unit |\n\
+/// The lines of a table of calls that make these.
+fn table(made: &str, rows: &[Measured]) -> String {
+    let mut text = format!(
+        "| class | n | {made} | calls timed, unit / second | unit, median µs | unit, best µs | unit, {made} a second | second, median µs | second, best µs | second, {made} a second | second / unit |\n\
          |---|---:|---:|---:|---:|---:|---:|---:|---:|---:|---:|\n",
     );
     for row in rows {
-        let rate = |median: f64| short(row.offers / median * 1e6);
+        let rate = |median: f64| short(row.made / median * 1e6);
         let _ = writeln!(
             text,
             "| {} | {} | {} | {} / {} | {} | {} | {} | {} | {} | {} | {} |",
             row.name,
             row.n,
-            short(row.offers),
+            short(row.made),
             row.unit.calls,
             row.second.calls,
             short(row.unit.median),
@@ -56,6 +56,7 @@ pub fn page(
     classes: &[Measured],
     growth: &[Measured],
     lengthening: &[Measured],
+    reviews: &[Measured],
     stack: &str,
     plot: &str,
 ) -> String {
@@ -70,10 +71,13 @@ pub fn page(
          {}\n## Cost over n\n\nThe contested shape, all but n and the positions equal.\n\n{}\n![cost over n]({plot})\n\n\
          ## Cost over offers\n\nThe contested shape at 512 candidates, the rows cut to so many entries: an institute holds at most 40, however many offers are\n\
          made to it.\n\n{}\n\
+         ## Reviews\n\nThe review of the unit's own lists, which pass: every entry that ranks above a seat is tried, and those of nobody's seat are all\n\
+         tried. In the one alike, everybody lists the same 16 entries in the same order, and half of all candidates get seats.\n\n{}\n\
          ## Stack\n\n{stack}",
         processor(),
-        table(classes),
-        table(growth),
-        table(lengthening)
+        table("offers", classes),
+        table("offers", growth),
+        table("offers", lengthening),
+        table("entries", reviews)
     )
 }

@@ -3,19 +3,26 @@
 use crate::difference::Difference;
 use std::time::{Duration, Instant};
 
-/// What a case came to: accepted, or refused by a number.
-#[derive(Clone, Copy, PartialEq, Eq)]
+/// What a case came to: accepted, which for a list is that it passes; a wrong seat or a better entry found; or refused by a number.
+#[derive(Clone, Copy, Debug, PartialEq, Eq)]
 pub enum Came {
     Accepted,
+    Seat,
+    Entry,
     Refused(usize),
 }
+
+/// The numbers of refusals are below this.
+const NUMBERS: usize = 16;
 
 /// The counts of a class, the first case that differed, and the time taken.
 pub struct Tally {
     pub name: String,
     pub compared: usize,
     pub accepted: usize,
-    pub refused: [usize; 15],
+    pub seats: usize,
+    pub entries: usize,
+    pub refused: [usize; NUMBERS],
     pub different: usize,
     pub first: Option<Difference>,
     started: Instant,
@@ -23,6 +30,7 @@ pub struct Tally {
     told: Instant,
     expected: usize,
     long: bool,
+    due: Vec<Came>,
 }
 
 /// The time between two progress lines.
@@ -35,7 +43,9 @@ impl Tally {
             name: name.to_string(),
             compared: 0,
             accepted: 0,
-            refused: [0; 15],
+            seats: 0,
+            entries: 0,
+            refused: [0; NUMBERS],
             different: 0,
             first: None,
             started: Instant::now(),
@@ -43,7 +53,14 @@ impl Tally {
             told: Instant::now(),
             expected,
             long,
+            due: Vec::new(),
         }
+    }
+
+    /// The same, of a class that is to have cases which come to each of these.
+    pub fn with(mut self, due: &[Came]) -> Self {
+        self.due = due.to_vec();
+        self
     }
 
     /// Counts one case.
@@ -52,7 +69,9 @@ impl Tally {
         self.taken = self.started.elapsed();
         match came {
             Came::Accepted => self.accepted += 1,
-            Came::Refused(number) => self.refused[number.min(14)] += 1,
+            Came::Seat => self.seats += 1,
+            Came::Entry => self.entries += 1,
+            Came::Refused(number) => self.refused[number.min(NUMBERS - 1)] += 1,
         }
         if difference.is_some() {
             self.different += 1;
@@ -66,11 +85,30 @@ impl Tally {
         }
     }
 
-    /// The line of the class: cases, accepted ones, refused ones by number, differing ones, seconds.
+    /// How many cases came to this.
+    fn of(&self, came: Came) -> usize {
+        match came {
+            Came::Accepted => self.accepted,
+            Came::Seat => self.seats,
+            Came::Entry => self.entries,
+            Came::Refused(number) => self.refused[number],
+        }
+    }
+
+    /// What the class is to have and no case came to.
+    pub fn lacking(&self) -> Vec<Came> {
+        let due = self.due.iter().copied();
+        due.filter(|&came| self.of(came) == 0).collect()
+    }
+
+    /// The line of the class: cases, accepted ones, differing ones, seconds, then findings, and refused ones by number.
     pub fn line(&self) -> String {
-        let refused: Vec<String> = (1..15)
-            .filter(|&number| self.refused[number] > 0)
-            .map(|number| format!("{number}:{}", self.refused[number]))
+        let found = [("seat", self.seats), ("entry", self.entries)]
+            .map(|(name, count)| (name.to_string(), count));
+        let refused = (1..NUMBERS).map(|number| (number.to_string(), self.refused[number]));
+        let others: Vec<String> = (found.into_iter().chain(refused))
+            .filter(|&(_, count)| count > 0)
+            .map(|(name, count)| format!("{name}:{count}"))
             .collect();
         format!(
             "{:<22} {:>8} {:>8} {:>9} {:>8.1}  {}",
@@ -79,7 +117,7 @@ impl Tally {
             self.accepted,
             self.different,
             self.taken.as_secs_f64(),
-            refused.join(" ")
+            others.join(" ")
         )
         .trim_end()
         .to_string()
@@ -88,13 +126,13 @@ impl Tally {
     /// The line above those of the classes.
     pub fn header() -> String {
         format!(
-            "{:<22} {:>8} {:>8} {:>9} {:>8}  refused by number",
+            "{:<22} {:>8} {:>8} {:>9} {:>8}  found, and refused by number",
             "class", "compared", "accepted", "different", "seconds"
         )
     }
 
-    /// Whether the class has cases and none differed.
+    /// Whether the class has cases, those that it is to have among them, and none differed.
     pub fn passed(&self) -> bool {
-        self.compared > 0 && self.different == 0
+        self.compared > 0 && self.different == 0 && self.lacking().is_empty()
     }
 }

@@ -27,6 +27,7 @@ pub fn compare(file: &[u8]) -> (Came, Option<Difference>) {
     let difference = (said != due).then(|| Difference {
         asked: "verdict".to_string(),
         input: file.to_vec(),
+        list: None,
         unit: text(said),
         second: text(due),
     });

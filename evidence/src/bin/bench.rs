@@ -2,14 +2,18 @@
 //! `bench --file CLASS SEED`, which writes a file of a class to standard output.
 
 use evidence::files::Made;
-use evidence::measure::{classes, growth, lengthening, measure, Measured};
+use evidence::measure::{classes, growth, lengthening, reviews};
+use evidence::measure::{measure, measure_review, Measured};
 use evidence::{plot, stack, table};
 use std::io::Write;
 use std::path::Path;
 use std::process::ExitCode;
 
-/// Measures classes one after the other, and tells each.
-fn measured(classes: Vec<(String, Made, Vec<u64>)>) -> Vec<Measured> {
+/// Measures classes one after the other in a way, and tells each.
+fn measured(
+    classes: Vec<(String, Made, Vec<u64>)>,
+    measure: fn(&str, Made, &[u64]) -> Measured,
+) -> Vec<Measured> {
     classes
         .into_iter()
         .map(|(name, made, seeds)| {
@@ -30,7 +34,7 @@ fn measured(classes: Vec<(String, Made, Vec<u64>)>) -> Vec<Measured> {
 /// The file of a timed class, by the class's name and a seed.
 fn file_of(name: &str, seed: &str) -> Option<Vec<u8>> {
     let seed = seed.parse().ok()?;
-    let timed = [classes(), growth(), lengthening()].concat();
+    let timed = [classes(), growth(), lengthening(), reviews()].concat();
     let (_, made, _) = timed.into_iter().find(|(known, _, _)| known == name)?;
     Some(made.file(seed))
 }
@@ -61,11 +65,14 @@ fn main() -> ExitCode {
             }
         },
         [page, picture] => {
-            let (classes, growth) = (measured(classes()), measured(growth()));
-            let lengthening = measured(lengthening());
+            let (classes, growth) = (measured(classes(), measure), measured(growth(), measure));
+            let lengthening = measured(lengthening(), measure);
+            println!("reviews of the unit's own lists");
+            let reviews = measured(reviews(), measure_review);
             let name = Path::new(picture).file_name().unwrap_or_default();
             let name = name.to_string_lossy();
-            let text = table::page(&classes, &growth, &lengthening, &stack::text(), &name);
+            let stack = stack::text();
+            let text = table::page(&classes, &growth, &lengthening, &reviews, &stack, &name);
             put(page, &text) && put(picture, &plot::plot(&growth))
         }
         _ => {

@@ -1,17 +1,18 @@
 //! Compares the unit with the second program, class by class.
 
 use evidence::classes::Run;
-use evidence::fenced;
+use evidence::lists::Listed;
 use evidence::plan;
 use evidence::program::Program;
 use evidence::tally::Tally;
+use evidence::{fenced, fenced_reviews};
 use std::path::PathBuf;
 use std::process::ExitCode;
 
 const USAGE: &str = "compare [--long] [--seed S] [--only NAMES] [--rounds DIR] [--keep DIR] [--program PATH]
---long runs 275,000 lawful rounds, 119,000 of them in other orders, and 1,000,000 damaged files; --seed takes other made files;
---only runs the classes whose names begin with one of these, parted by commas; --rounds is the folder of worked rounds; --keep is
-the folder that gets the first differing input of a class; --program is the unit's program, run on files and pipes.";
+--long runs 275,000 lawful rounds, 119,000 of them in other orders, 1,000,000 damaged files, and 250,000 reviews; --seed takes other
+made files; --only runs the classes whose names begin with one of these, parted by commas; --rounds is the folder of worked rounds;
+--keep is the folder that gets the first differing input of a class; --program is the unit's program, run on files and pipes.";
 
 /// The words of the command.
 struct Words {
@@ -20,7 +21,7 @@ struct Words {
     rounds: PathBuf,
     keep: PathBuf,
     program: Option<PathBuf>,
-    fenced: bool,
+    alone: Option<String>,
 }
 
 /// Reads the words of the command.
@@ -34,7 +35,7 @@ fn words() -> Option<Words> {
         rounds: PathBuf::from("rounds"),
         keep: PathBuf::from("target/compare"),
         program: None,
-        fenced: false,
+        alone: None,
     };
     let mut given = std::env::args().skip(1);
     while let Some(word) = given.next() {
@@ -45,7 +46,7 @@ fn words() -> Option<Words> {
             "--rounds" => words.rounds = given.next()?.into(),
             "--keep" => words.keep = given.next()?.into(),
             "--program" => words.program = Some(given.next()?.into()),
-            "--fenced" => words.fenced = true,
+            "--alone" => words.alone = Some(given.next()?),
             _ => return None,
         }
     }
@@ -75,18 +76,27 @@ impl Book {
             return;
         }
         self.failed += 1;
+        for came in tally.lacking() {
+            println!("  no case came to {came:?}");
+        }
         let Some(difference) = tally.first else {
-            println!("  no case was run");
+            println!("  no case differed, of {}", tally.compared);
             return;
         };
         print!("{}", difference.text());
-        let path = self
-            .keep
-            .join(name.replace(", ", "-").replace(' ', "-") + ".round");
-        let kept = std::fs::create_dir_all(&self.keep)
-            .and_then(|()| std::fs::write(&path, &difference.input));
+        self.kept(name, "round", &difference.input);
+        if let Some(list) = difference.list {
+            self.kept(name, "list", &list);
+        }
+    }
+
+    /// Keeps bytes of the first differing case of a class, and says where.
+    fn kept(&self, name: &str, end: &str, bytes: &[u8]) {
+        let name = name.replace(", ", "-").replace(' ', "-");
+        let path = self.keep.join(name).with_extension(end);
+        let kept = std::fs::create_dir_all(&self.keep).and_then(|()| std::fs::write(&path, bytes));
         if kept.is_ok() {
-            println!("  the input is kept in {}", path.display());
+            println!("  the {end} is kept in {}", path.display());
         }
     }
 }
@@ -97,8 +107,12 @@ fn main() -> ExitCode {
         return ExitCode::from(2);
     };
     let (run, rounds) = (words.run, words.rounds);
-    if words.fenced {
-        return match fenced::alone(&run, &rounds) {
+    if let Some(class) = words.alone {
+        let made = match class.as_str() {
+            fenced_reviews::NAME => fenced_reviews::alone(&run, &rounds),
+            _ => fenced::alone(&run, &rounds),
+        };
+        return match made {
             Ok(()) => ExitCode::SUCCESS,
             Err(_) => ExitCode::FAILURE,
         };
@@ -140,6 +154,18 @@ fn main() -> ExitCode {
     book.class("choose, stray marks", || run.stray(2_000 * times));
     book.class("choose, types", || run.of_types(8_000 * times));
     book.class(fenced::NAME, || fenced::class(&run, &rounds));
+    book.class("review, worked", || run.worked_lists(&rounds));
+    book.class("review, every list", || run.every_list(&rounds));
+    for listed in Listed::ALL {
+        let files = plan::lists(run.long);
+        book.class(listed.name(), || run.lists(listed, &files));
+    }
+    book.class("review, mended", || run.mended(&plan::mended(run.long)));
+    book.class("review, damaged files", || run.damaged_with_lists());
+    book.class("review, lengths", || run.list_lengths(&rounds));
+    book.class(fenced_reviews::NAME, || {
+        fenced_reviews::class(&run, &rounds)
+    });
     if let Some(path) = words.program {
         let program = Program {
             path,
