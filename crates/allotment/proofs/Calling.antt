@@ -6,7 +6,6 @@ use native.Mathlib.Omega.{arith}
 use lib.ListN.{length, drop, replicate}
 use Rattle.round.specs.declared.head.Head.{Head as CodeHead}
 use Rattle.round.specs.declared.reader.Reading.{Reading}
-use Rattle.round.specs.declared.reader.Reading.the-variants.{Read}
 use Rattle.round.specs.declared.reader.Reading.the-variants.{Refused as ReadingRefused}
 use Rattle.round.specs.Outcome.{verdictOf, RoundRead}
 use Rattle.round.specs.Reading.{roundOf}
@@ -58,12 +57,3 @@ module _ {file : List ℕ} {got : Reading} {candidates₀ candidates merits₀ m
   handed-refused {answer} {work} {result} {number} {offset} e told =
       let result-is : result ≡ Refused number offset = e ∙ ap refusedBy told in
       rw result-is (promise-refused file answer work number offset (sym (asked .answer) ∙ ap verdictOf told))
-
-  -- it is read
-  pub at-hand : {h : CodeHead} → got ≡ Read h → AtHand file h candidates merits
-  at-hand {h} told = record {
-    passing = sym (asked .answer) ∙ ap verdictOf told;
-    head = asked .head h told;
-    candidate-starts = asked .candidate-starts h told;
-    merit-starts = asked .merit-starts h told;
-  }

@@ -13,6 +13,7 @@ pub mod Process
 pub mod AtEnd
 pub mod Standing
 pub mod Given
+pub mod Below
 pub mod StableRound
 pub mod AccountRound
 pub mod FirstTypes

@@ -1,1 +1,2 @@
 pub mod Allotting
+pub mod Reviewing

@@ -1,2 +1,3 @@
 // The unit's calls for C and Rust, in one archive.
 mod allotting;
+mod reviewing;

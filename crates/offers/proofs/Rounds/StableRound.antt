@@ -1,26 +1,24 @@
 -- The list of a sound round is stable.
 use mathlib.Core.Path.{_≡_, refl, sym, _∙_, ap}
-use mathlib.Core.Bool.{Bool, true, false, _&&_}
+use mathlib.Core.Bool.{true, _&&_}
 use mathlib.Core.Logic.{_⊎_, inl, inr, ⊎-elim}
 use mathlib.Core.List.{List}
-use Prim.Native.Nat.{ℕ, _*_, _/_, _%_, _≤_, _<_}
+use Prim.Native.Nat.{ℕ, _/_, _%_, _≤_, _<_}
 use native.Mathlib.Omega.{arith}
-use lib.Dec.{eqb, ltb}
+use lib.Dec.{eqb}
 use lib.ListN.{length, getD}
-use borrow.Author.Tests.{ltb-true, ltb-false, eqb-true, eq-eqb}
+use borrow.Author.Tests.{eqb-true, eq-eqb}
 use Rattle.round.specs.declared.entry.Category.{Category}
 use Rattle.round.specs.Category.{categoryOf}
 use Rattle.round.specs.Round.{Round}
 use Rattle.round.specs.Sound.{Sound}
-use Rattle.round.proofs.Words.{and-fst, and-snd, and-no, or-cases}
+use Rattle.round.proofs.Words.{and-fst, and-snd, or-cases}
 use Rattle.choice.proofs.Counting.{clash, or-right}
-use Rattle.choice.proofs.Steps.{code-small}
 use Rattle.offers.specs.Rows.{rowAt, rankIn, entryOf}
 use Rattle.offers.specs.Offers.{OfferSet, placeOn, stepsOn, stepFor}
 use Rattle.offers.specs.Process.{noSeat, candidateCount, instituteCount, madeTo, tried, seats}
 use Rattle.offers.specs.Standing.{standing}
 use Rattle.offers.specs.Stable.{given, stepOf, OfRows, Same, together, WouldChoose, SomeBelow, Stable}
-use Rattle.offers.proofs.Market.Tests.{some-below}
 use Rattle.offers.proofs.Market.Laws.{Contracts}
 use Rattle.offers.proofs.Market.Reached.{reached-fits}
 use Rattle.offers.proofs.Market.Stable.{tried-all}
@@ -31,6 +29,7 @@ use Rattle.offers.proofs.Rounds.Running.{held, made-to, held-at, Runnin
 use Rattle.offers.proofs.Rounds.Seats.{Seated, Unseated, seat-of}
 use Rattle.offers.proofs.Rounds.Process.{tried-running, tried-final}
 use Rattle.offers.proofs.Rounds.Standing.{seated-rank, standing-seated, standing-unseated}
+use Rattle.offers.proofs.Rounds.Below.{NoneBelow, below-or-none}
 use Rattle.offers.proofs.Rounds.Given.{given-held, step-given}
 
 module _ {types : ℕ} {r : Round} (sound : Sound types r) where
@@ -66,10 +65,6 @@ module _ {types : ℕ} {r : Round} (sound : Sound types r) where
         ∙ sym (step-given sound run i j hi hj)
 
     module _ (set : OfferSet) (listed : OfRows r j set) where
-      -- an offer of the set ranks below its candidate's seat
-      below : ℕ → Category → Bool
-      below i c = set i c && ltb (standing r i (getD (seats r) i noSeat)) (rankIn (rowAt r i) (entryOf j c))
-
       -- the set among the offers to all institutes
       abbrev setOf : Contracts
       setOf i e = eqb (e / 5) j && set i (categoryOf (e % 5))
@@ -87,9 +82,8 @@ module _ {types : ℕ} {r : Round} (sound : Sound types r) where
           let at = listed i (categoryOf (e % 5)) (set-of i e z .1) in
           (at .0, omega (arith, at .1, set-of i e z .0, row-length r i))
 
-      set-above : ((i : ℕ) → i < candidateCount r → (c : Category) → below i c ≡ false)
-          → (i e d : ℕ) → setOf i e ≡ true → held r (tried r) i d ≡ true → rowsOf r i .rank e ≤ rowsOf r i .rank d
-      unfolding seats below
+      set-above : NoneBelow r (seats r) j set → (i e d : ℕ) → setOf i e ≡ true → held r (tried r) i d ≡ true → rowsOf r i .rank e ≤ rowsOf r i .rank d
+      unfolding seats
       set-above none i e d z x = go (seat-of sound run i hi)
         where
           hi : i < candidateCount r
@@ -100,7 +94,7 @@ module _ {types : ℕ} {r : Round} (sound : Sound types r) where
               let c : Category = categoryOf (e % 5) in
               let same : d ≡ numberOf (s .institute) (s .category) = one-entry-held sound run i hi d _ x (s .holds) in
               let least : rankIn (rowAt r i) (entryOf j c) ≤ standing r i (getD (seats r) i noSeat) =
-              ltb-false _ _ (and-no (set i c) _ (none i hi c) (set-of i e z .1)) in
+              none i hi c (set-of i e z .1) in
               omega (
                 arith,
                 set-of i e z .0,
@@ -111,13 +105,13 @@ module _ {types : ℕ} {r : Round} (sound : Sound types r) where
           go (inr s) = clash x (s .none d)
 
       -- with none below, all were made
-      set-made : ((i : ℕ) → i < candidateCount r → (c : Category) → below i c ≡ false) → (i : ℕ) (c : Category) → set i c ≡ true → madeTo r (tried r) j i c ≡ true
+      set-made : NoneBelow r (seats r) j set → (i : ℕ) (c : Category) → set i c ≡ true → madeTo r (tried r) j i c ≡ true
       set-made none i c t =
           ap (λ (Y : OfferSet). Y i c) (made-to r (tried r) j)
           ∙ tried-all (round-market r sound) (tried-final sound .closed) setOf (record { listed = set-listed; above = set-above none }) i (numberOf j c)
           (rw (number-institute j c, eq-eqb j j refl, number-category j c) t)
 
-      would-same : ((i : ℕ) → i < candidateCount r → (c : Category) → below i c ≡ false) → WouldChoose r (seats r) j set → Same r set (given r (seats r) j)
+      would-same : NoneBelow r (seats r) j set → WouldChoose r (seats r) j set → Same r set (given r (seats r) j)
       unfolding WouldChoose Same seats
       would-same none would i c hi =
           let steps : stepsOn r j (together r (seats r) j set) ≡ stepsOn r j (madeTo r (tried r) j) =
@@ -130,13 +124,9 @@ module _ {types : ℕ} {r : Round} (sound : Sound types r) where
           ∙ sym (given-held sound run i j hi hj c)
 
       set-unblocked : (Same r set (given r (seats r) j) → ⊥) → WouldChoose r (seats r) j set → SomeBelow r (seats r) j set
-      unfolding SomeBelow below
-      set-unblocked other would = go (some-below (5 * candidateCount r) (λ e. below (e / 5) (categoryOf (e % 5))))
-        where
-          go : ((e : ℕ) × (below (e / 5) (categoryOf (e % 5)) ≡ true)) ⊎ ((e : ℕ) → e < 5 * candidateCount r → below (e / 5) (categoryOf (e % 5)) ≡ false)
-              → SomeBelow r (seats r) j set
-          go (inl (e, t)) = (e / 5, categoryOf (e % 5), and-fst (set (e / 5) (categoryOf (e % 5))) _ t, ltb-true _ _ (and-snd (set (e / 5) (categoryOf (e % 5))) _ t))
-          go (inr none) = absurd (other (would-same (λ i hi c. rw (number-institute i c, number-category i c) at (none (numberOf i c) (omega (arith, code-small c)))) would))
+      set-unblocked other would =
+          ⊎-elim (λ (some : SomeBelow r (seats r) j set). some) (λ (none : NoneBelow r (seats r) j set). absurd (other (would-same none would)))
+          (below-or-none r (seats r) j set)
 
   pub round-stable : Stable r (seats r)
   round-stable = record {

@@ -5,11 +5,13 @@ use mathlib.Core.List.{List}
 use native.Mathlib.Omega.{arith}
 use lib.ListN.{length, take, replicate}
 use Rattle.round.specs.declared.head.Head.{Head as CodeHead}
+use Rattle.round.specs.declared.reader.Reading.{Reading}
+use Rattle.round.specs.declared.reader.Reading.the-variants.{Read}
 use Rattle.round.specs.Records.{Head, headOf}
 use Rattle.round.specs.Reading.{roundOf}
 use Rattle.round.specs.Places.{instituteAt, meritAt}
 use Rattle.round.specs.Sound.{Sound, SoundInstitute}
-use Rattle.round.specs.Outcome.{CandidateStarts}
+use Rattle.round.specs.Outcome.{verdictOf, CandidateStarts, RoundRead}
 use Rattle.round.specs.Access.{CandidateKnown, MeritKnown}
 use Rattle.round.proofs.Sound.{length-candidates, length-institutes, sound}
 use Rattle.choice.proofs.Steps.{sized, room, front-each, front-zero}
@@ -65,6 +67,9 @@ module _ {file : List ℕ} {h : CodeHead} {candidates merits : List ℕ} (at : A
   pub institutes-few : h .institutes ≤ 32
   institutes-few = omega (arith, institutes-many, round-sound .institutes-most)
 
+  pub knows-candidate : {i : ℕ} → i < h .candidates → CandidateKnown file candidates i
+  knows-candidate l = record { accepted = at .passing; table = at .candidate-starts; below = omega (arith, candidates-are) }
+
   pub knows-merit : {j : ℕ} → j < h .institutes → MeritKnown file merits j
   knows-merit l = record { accepted = at .passing; table = at .merit-starts; below = omega (arith, institutes-are) }
 
@@ -85,3 +90,13 @@ head-many file n e = e ∙ length-candidates file
 
 pub zeros-room : (n : ℕ) (l : List ℕ) → l ≡ replicate n 0 → n ≤ length l
 zeros-room n l e = omega (arith, sized n e)
+
+-- a file that was read is at hand
+pub at-hand : {file : List ℕ} {got : Reading} {candidates₀ candidates merits₀ merits : List ℕ} → RoundRead file got candidates₀ candidates merits₀ merits
+    → {h : CodeHead} → got ≡ Read h → AtHand file h candidates merits
+at-hand asked {h} told = record {
+  passing = sym (asked .answer) ∙ ap verdictOf told;
+  head = asked .head h told;
+  candidate-starts = asked .candidate-starts h told;
+  merit-starts = asked .merit-starts h told;
+}

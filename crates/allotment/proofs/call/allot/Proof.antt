@@ -1,7 +1,8 @@
 -- A file is read; it is refused, or its round is allotted.
 -- Assumes nothing.
 use borrow.Author.Needs.{needs}
-use Rattle.allotment.proofs.Calling.{handed-refused, at-hand}
+use Rattle.offers.proofs.Sweeps.Known.{at-hand}
+use Rattle.allotment.proofs.Calling.{handed-refused}
 use Rattle.allotment.proofs.call.allot.Statement.{statement}
 use Rattle.allotment.proofs.call.allot.Tie as tie
 

@@ -1,0 +1,91 @@
+-- The listed seats that are in their rows are put into the tables one after the other.
+use Prim.Native.Nat.{ℕ, _+_, _*_, _-_, _^_, _≤_, _<_}
+use mathlib.Core.Path.{_≡_, sym, _∙_, ap, subst}
+use mathlib.Core.Bool.{Bool, true, false}
+use mathlib.Core.List.{List}
+use native.Mathlib.Omega.{arith}
+use lib.ListN.{length, getD, set, replicate, length-set}
+use lib.Seq.{getD-set-same, getD-set-other}
+use Rattle.round.specs.declared.entry.Category.{Category}
+use Rattle.round.specs.declared.head.Head.{Head}
+use Rattle.round.specs.Category.{codeOf, categoryOf}
+use Rattle.round.specs.Round.{Round}
+use Rattle.round.specs.Reading.{roundOf}
+use Rattle.choice.proofs.Counting.{clash, sameOr}
+use Rattle.choice.proofs.Steps.{sized}
+use Rattle.choice.proofs.Tabulate.{getD-zeros}
+use Rattle.offers.specs.Process.{Seat}
+use Rattle.offers.proofs.Sweeps.Known.{candidates-many}
+use Rattle.review.specs.Finding.{inRow}
+use Rattle.review.specs.Outcome.{listOf}
+use Rattle.review.specs.Tables.{UnderReview, SeatsRead, AllRead}
+use Rattle.review.proofs.InRow.{row-numbers}
+use Rattle.review.proofs.SeatsRanked.{bytes-seat}
+
+module _ {file : List ℕ} {h : Head} {candidates merits list : List ℕ} (at : UnderReview file h candidates merits list) where
+  abbrev r : Round
+  r = roundOf file
+
+  abbrev seats : List Seat
+  seats = listOf r list
+
+  pub none-read : {asked wanted : List ℕ} → asked ≡ replicate (h .candidates) 0 → length wanted ≡ h .candidates → SeatsRead r seats 0 asked wanted
+  none-read e many = record {
+    asked-many = sized (h .candidates) e ∙ sym (candidates-many (at .hand));
+    wanted-many = many ∙ sym (candidates-many (at .hand));
+    asked-at = λ i l. absurd (omega arith);
+    wanted-at = λ i l. absurd (omega arith);
+    nobody = λ i l. absurd (omega arith);
+    later = λ i l. ap (λ (t : List ℕ). getD t i 0) e ∙ getD-zeros (h .candidates) i;
+  }
+
+  -- each table has a place for each candidate
+  pub asked-long : {k : ℕ} {asked wanted : List ℕ} → SeatsRead r seats k asked wanted → length asked ≡ h .candidates
+  asked-long s = s .asked-many ∙ candidates-many (at .hand)
+
+  pub wanted-long : {k : ℕ} {asked wanted : List ℕ} → SeatsRead r seats k asked wanted → length wanted ≡ h .candidates
+  wanted-long s = s .wanted-many ∙ candidates-many (at .hand)
+
+  -- all candidates are passed
+  pub all-read : {k : ℕ} {asked wanted : List ℕ} → SeatsRead r seats k asked wanted → k ≡ h .candidates → AllRead file list asked wanted
+  all-read {asked = asked} {wanted = wanted} s e = subst (λ n. SeatsRead r seats n asked wanted) (e ∙ sym (candidates-many (at .hand))) s
+
+  module _ {k : ℕ} (inside : k < h .candidates) {b : Bool} (told : b ≡ inRow r seats k) where
+    -- the seat in the row has a step of at least 1
+    pub row-step-least : b ≡ true → 1 ≤ getD list (2 * k + 1) 0
+    row-step-least t = omega (arith, row-numbers r seats k (sym told ∙ t), ap (λ (s : Seat). s .step) (bytes-seat at inside))
+
+    module _ {asked wanted : List ℕ} (s : SeatsRead r seats k asked wanted) where
+      pub one-skipped : b ≡ false → {asked' wanted' : List ℕ} → asked' ≡ asked → wanted' ≡ wanted → SeatsRead r seats (k + 1) asked' wanted'
+      one-skipped f ea ew =
+          rw (ea, ew)
+          record {
+            asked-many = s .asked-many;
+            wanted-many = s .wanted-many;
+            asked-at = λ i l t. sameOr i k (λ e. clash (rw e at t) (sym told ∙ f)) (λ d. s .asked-at i (omega arith) t);
+            wanted-at = λ i l t. sameOr i k (λ e. clash (rw e at t) (sym told ∙ f)) (λ d. s .wanted-at i (omega arith) t);
+            nobody = λ i l n. sameOr i k (λ e. rw e (s .later k (omega arith))) (λ d. s .nobody i (omega arith) n);
+            later = λ i l. s .later i (omega arith);
+          }
+
+      pub one-read : b ≡ true → {asked' wanted' : List ℕ} {number categories : ℕ} {c : Category} → number ≡ getD list (2 * k) 0
+          → c ≡ categoryOf (getD list (2 * k + 1) 0 - 1) → categories ≡ 2 ^ codeOf c → asked' ≡ set asked k number → wanted' ≡ set wanted k categories
+          → SeatsRead r seats (k + 1) asked' wanted'
+      one-read t {number = number} {categories = categories} en ec es ea ew =
+          let in-asked : k < length asked = omega (arith, asked-long s) in
+          let in-wanted : k < length wanted = omega (arith, wanted-long s) in
+          rw (ea, ew)
+          record {
+            asked-many = length-set asked k number ∙ s .asked-many;
+            wanted-many = length-set wanted k categories ∙ s .wanted-many;
+            asked-at = λ i l u. sameOr i k
+                (λ e. rw (e, bytes-seat at inside) (getD-set-same asked k number 0 in-asked ∙ en))
+                (λ d. getD-set-other asked k i number 0 d ∙ s .asked-at i (omega arith) u);
+            wanted-at = λ i l u. sameOr i k
+                (λ e. rw (e, bytes-seat at inside) (getD-set-same wanted k categories 0 in-wanted ∙ es ∙ ap (λ (x : Category). 2 ^ codeOf x) ec))
+                (λ d. getD-set-other wanted k i categories 0 d ∙ s .wanted-at i (omega arith) u);
+            nobody = λ i l n. sameOr i k
+                (λ e. clash (sym told ∙ t) (rw e at n))
+                (λ d. getD-set-other asked k i number 0 d ∙ s .nobody i (omega arith) n);
+            later = λ i l. getD-set-other asked k i number 0 (λ e. omega arith) ∙ s .later i (omega arith);
+          }

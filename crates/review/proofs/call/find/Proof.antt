@@ -1,0 +1,101 @@
+-- `review::call::find` meets its contract: the first wrong seat is found, or else the entries decide. Assumes nothing.
+use mathlib.Core.Path.{_≡_, _∙_}
+use native.Mathlib.Omega.{arith}
+use denote.Ref.{now}
+use Rattle.round.specs.Reading.{roundOf}
+use Rattle.offers.specs.Process.{candidateCount}
+use Rattle.offers.proofs.Sweeps.Known.{candidates-many}
+use Rattle.review.proofs.FirstFinding.{wrong-found, none-wrong}
+use borrow.Author.Needs.{needs}
+use Rattle.review.proofs.call.find.Statement.{statement}
+use Rattle.review.proofs.call.find.Tie as tie
+
+-- where the function begins, seen from where its bytes are known, and where the seats are read and the steps given, seen from what follows
+abbrev begun : tie.After-shared-slice-known4 → tie.Start
+begun c = c .before .before .before .before
+
+abbrev bytes : tie.After-read-seats-arg → tie.After-shared-slice-known4
+bytes c = c .before .before .before .before
+
+abbrev read-by : tie.After-give-steps-arg → tie.After-read-seats
+read-by c = c .before .before .before .before .before
+
+abbrev gave : tie.After-first-wrong → tie.After-give-steps
+gave c = c .before .before .before .before .before
+
+-- what is known where the first wrong seat is
+module _ (c : tie.After-first-wrong) where
+  abbrev read : tie.After-read-seats
+  read = read-by (gave c .before .before .before)
+
+  abbrev start : tie.Start
+  start = begun (bytes (read .before .before))
+
+  many : candidateCount (roundOf (now (start .args .file))) ≡ start .args .h .candidates
+  many = candidates-many (start .pre .0 .hand)
+
+read-seats-requires : tie.Need-read-seats-requires
+read-seats-requires c κs = search needs
+
+give-steps-requires : tie.Need-give-steps-requires
+give-steps-requires c κs = (search needs, (omega (arith, candidates-many), omega (arith, candidates-many), search needs))
+
+first-wrong-requires : tie.Need-first-wrong-requires
+first-wrong-requires c κs = search needs
+
+add-t26 : tie.Need-add-t26
+add-t26 c = search needs
+
+same-length : tie.Need-same-length
+same-length c = search needs
+
+same-length-2 : tie.Need-same-length-2
+same-length-2 c = search needs
+
+same-length-3 : tie.Need-same-length-3
+same-length-3 c = search needs
+
+returns : tie.Need-returns
+returns c =
+    let known : tie.After-first-wrong = search needs in
+    wrong-found _ _ (read known .read-seats .ensures) (gave known .give-steps .ensures) (known .first-wrong .ensures)
+    (omega (arith, many known))
+
+find-entry-requires : tie.Need-find-entry-requires
+find-entry-requires c κs =
+    let known : tie.After-first-wrong = search needs in
+    (start known .pre .0, (read known .read-seats .ensures, gave known .give-steps .ensures .many ∙ many known))
+
+same-length-4 : tie.Need-same-length-4
+same-length-4 c = search needs
+
+same-length-5 : tie.Need-same-length-5
+same-length-5 c = search needs
+
+same-length-6 : tie.Need-same-length-6
+same-length-6 c = search needs
+
+returns-2 : tie.Need-returns-2
+returns-2 c =
+    let said : tie.After-find-entry = search needs in
+    let known : tie.After-first-wrong = search needs in
+    none-wrong _ _ (read known .read-seats .ensures) (gave known .give-steps .ensures) (known .first-wrong .ensures)
+    (omega (arith, many known)) (said .find-entry .ensures)
+
+pub find-spec : {M : Type 1} → statement M
+find-spec =
+    tie.close
+    (tie.spec
+    read-seats-requires
+    give-steps-requires
+    first-wrong-requires
+    add-t26
+    same-length
+    same-length-2
+    same-length-3
+    returns
+    find-entry-requires
+    same-length-4
+    same-length-5
+    same-length-6
+    returns-2)

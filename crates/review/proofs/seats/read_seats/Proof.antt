@@ -1,0 +1,123 @@
+-- `review::seats::read_seats` meets its contract: the seats passed are read. Assumes nothing.
+use Prim.Native.Nat.{_-_, _≤_}
+use mathlib.Core.Path.{_≡_, refl}
+use mathlib.Core.Logic.{⊎-elim}
+use native.Mathlib.Omega.{arith}
+use Rattle.choice.proofs.Steps.{sized}
+use Rattle.round.specs.Reading.{roundOf}
+use Rattle.review.specs.Outcome.{listOf}
+use Rattle.review.specs.Tables.{SeatsRead}
+use Rattle.review.proofs.SeatsReading.{none-read, one-skipped, one-read, row-step-least, asked-long, wanted-long, all-read}
+use borrow.Author.Needs.{needs}
+use Rattle.review.proofs.seats.read_seats.Statement.{statement}
+use Rattle.review.proofs.seats.read_seats.Tie as tie
+
+abbrev Inv-loop : tie.InvT-loop
+Inv-loop file h candidates merits list asked₀ wanted₀ i₀ i-end asked wanted i =
+    (i ≤ i-end) × (i-end ≡ h .candidates) × SeatsRead (roundOf file) (listOf (roundOf file) list) i asked wanted
+
+abbrev μ-loop : tie.MeasureT-loop
+μ-loop file h candidates merits list asked₀ wanted₀ i₀ i-end asked wanted i = i-end - i
+
+loop-holds : tie.Need-loop-holds Inv-loop μ-loop
+loop-holds c = (omega arith, search sized, search none-read)
+
+in-row-requires : tie.Need-in-row-requires Inv-loop μ-loop
+in-row-requires c κs = search needs
+
+mul-asked : tie.Need-mul-asked Inv-loop μ-loop
+mul-asked c = search needs
+
+shared-slice-read-asked : tie.Need-shared-slice-read-asked Inv-loop μ-loop
+shared-slice-read-asked c = search needs
+
+slice-write-asked : tie.Need-slice-write-asked Inv-loop μ-loop
+slice-write-asked c =
+    let start : tie.Start Inv-loop μ-loop = search needs in
+    let l : tie.At-loop Inv-loop μ-loop = search needs in
+    omega (arith, asked-long (start .pre .0) (l .loop .inv .2))
+
+mul-step-category : tie.Need-mul-step-category Inv-loop μ-loop
+mul-step-category c = search needs
+
+add-step-category : tie.Need-add-step-category Inv-loop μ-loop
+add-step-category c = search needs
+
+shared-slice-read-step-category : tie.Need-shared-slice-read-step-category Inv-loop μ-loop
+shared-slice-read-step-category c = search needs
+
+step-category-requires : tie.Need-step-category-requires Inv-loop μ-loop
+step-category-requires c κs =
+    let start : tie.Start Inv-loop μ-loop = search needs in
+    let tested : tie.Then1 Inv-loop μ-loop = search needs in
+    row-step-least (start .pre .0) (omega arith) (tested .before .in-row .ensures) (tested .if1 .taken)
+
+only-requires : tie.Need-only-requires Inv-loop μ-loop
+only-requires c κs = search needs
+
+slice-write-wanted : tie.Need-slice-write-wanted Inv-loop μ-loop
+slice-write-wanted c =
+    let start : tie.Start Inv-loop μ-loop = search needs in
+    let l : tie.At-loop Inv-loop μ-loop = search needs in
+    omega (arith, wanted-long (start .pre .0) (l .loop .inv .2))
+
+add-i : tie.Need-add-i Inv-loop μ-loop
+add-i c = search needs
+
+loop-less : tie.Need-loop-less Inv-loop μ-loop
+loop-less c = search needs
+
+loop-again : tie.Need-loop-again Inv-loop μ-loop
+loop-again c =
+    let start : tie.Start Inv-loop μ-loop = search needs in
+    let l : tie.At-loop Inv-loop μ-loop = search needs in
+    let told = c .before .in-row .ensures in (
+      omega arith,
+      search needs,
+      ⊎-elim
+          (λ w. one-read (start .pre .0) (omega arith) told (l .loop .inv .2) (w .0 .taken) refl (w .3 .ensures) (w .4 .ensures) (w .5) (w .6))
+          (λ w. one-skipped (start .pre .0) (omega arith) told (l .loop .inv .2) (w .0 .left) (w .1) (w .2))
+          (c .if1 .came),
+    )
+
+same-length : tie.Need-same-length Inv-loop μ-loop
+same-length c =
+    let start : tie.Start Inv-loop μ-loop = search needs in
+    let l : tie.At-loop Inv-loop μ-loop = search needs in
+    omega (arith, asked-long (start .pre .0) (l .loop .inv .2), sized (start .args .h .candidates) (start .pre .1 .0))
+
+same-length-2 : tie.Need-same-length-2 Inv-loop μ-loop
+same-length-2 c =
+    let start : tie.Start Inv-loop μ-loop = search needs in
+    let l : tie.At-loop Inv-loop μ-loop = search needs in
+    omega (arith, wanted-long (start .pre .0) (l .loop .inv .2), start .pre .1 .1)
+
+returns : tie.Need-returns Inv-loop μ-loop
+returns c =
+    let start : tie.Start Inv-loop μ-loop = search needs in
+    let l : tie.At-loop Inv-loop μ-loop = search needs in
+    all-read (start .pre .0) (l .loop .inv .2) (omega arith)
+
+pub read-seats-spec : {M : Type 1} → statement M
+read-seats-spec =
+    tie.close
+    (tie.spec
+    Inv-loop
+    μ-loop
+    loop-holds
+    in-row-requires
+    mul-asked
+    shared-slice-read-asked
+    slice-write-asked
+    mul-step-category
+    add-step-category
+    shared-slice-read-step-category
+    step-category-requires
+    only-requires
+    slice-write-wanted
+    add-i
+    loop-less
+    loop-again
+    same-length
+    same-length-2
+    returns)

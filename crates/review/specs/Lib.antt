@@ -1,0 +1,5 @@
+pub mod Finding
+pub mod Outcome
+pub mod Promise
+pub mod Tables
+pub mod Handing

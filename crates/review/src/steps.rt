@@ -1,0 +1,70 @@
+// The steps that the institutes give when they choose from the listed seats, and the first seat that is wrong.
+use offers::choosing::choose_all;
+use round::head::Head;
+ghost use mathlib.Core.Path.{_≡_};
+ghost use Prim.Native.Nat.{_*_, _<_};
+ghost use lib.ListN.{length, replicate};
+ghost use Rattle.round.specs.Lists.{first};
+ghost use Rattle.round.specs.Reading.{roundOf};
+ghost use Rattle.offers.specs.Held.{AtHand};
+ghost use Rattle.review.specs.Tables.{StepsGiven, wrongBy};
+
+// A mark for every institute.
+fn every_institute() -> [u8; 32]
+    ensures { λ r. ⌜ r ≡ replicate 32 1 ⌝ }
+{
+    [1; 32]
+}
+
+// Every institute chooses from the offers to it.
+pub fn give_steps(
+    file: &[u8],
+    h: Head,
+    candidates: &[usize],
+    merits: &[usize],
+    asked: &[u8],
+    wanted: &[u8],
+    steps: &mut [u8],
+)
+    requires { ⌜ AtHand (now file) h (now candidates) (now merits) ⌝ }
+    requires { ⌜ (length (now asked) ≡ h .candidates) × (length (now wanted) ≡ h .candidates) × (now steps ≡ replicate (h .candidates) 0) ⌝ }
+    ensures { λ _. ⌜ StepsGiven (roundOf (now (file .entry))) (now (asked .entry)) (now (wanted .entry)) (now (steps .exit)) ⌝ }
+{
+    let mut every = every_institute();
+    choose_all(
+        file,
+        h,
+        candidates,
+        merits,
+        asked,
+        wanted,
+        &mut every,
+        steps,
+    );
+}
+
+// Whether candidate i's seat is wrong, by the offers and the steps given.
+fn is_wrong(list: &[u8], asked: &[u8], steps: &[u8], i: usize) -> bool
+    requires { ⌜ (i < length (now asked)) × (length (now steps) ≡ length (now asked)) × (length (now list) ≡ 2 * length (now asked)) ⌝ }
+    ensures { λ r. ⌜ r ≡ wrongBy (now (list .entry)) (now (asked .entry)) (now (steps .entry)) i ⌝ }
+{
+    let institute = list[2 * i];
+    let step = list[2 * i + 1];
+    if institute == 0 && step == 0 {
+        return false;
+    }
+    asked[i] == 0 || steps[i] != step
+}
+
+// The first candidate whose seat is wrong, from 0; the number of candidates where none is.
+pub fn first_wrong(list: &[u8], asked: &[u8], steps: &[u8]) -> usize
+    requires { ⌜ (length (now steps) ≡ length (now asked)) × (length (now list) ≡ 2 * length (now asked)) ⌝ }
+    ensures { λ r. ⌜ r ≡ first (length (now (asked .entry))) (wrongBy (now (list .entry)) (now (asked .entry)) (now (steps .entry))) ⌝ }
+{
+    for i in 0..asked.len() {
+        if is_wrong(list, asked, steps, i) {
+            return i;
+        }
+    }
+    asked.len()
+}
