@@ -71,8 +71,9 @@ pub fn page(
          {}\n## Cost over n\n\nThe contested shape, all but n and the positions equal.\n\n{}\n![cost over n]({plot})\n\n\
          ## Cost over offers\n\nThe contested shape at 512 candidates, the rows cut to so many entries: an institute holds at most 40, however many offers are\n\
          made to it.\n\n{}\n\
-         ## Reviews\n\nThe review of the unit's own lists, which pass: every entry that ranks above a seat is tried, and those of nobody's seat are all\n\
-         tried. In the one alike, everybody lists the same 16 entries in the same order, and half of all candidates get seats.\n\n{}\n\
+         ## Reviews\n\nThe review of the unit's own lists, which pass: every entry that ranks above its candidate's seat is tried, and every entry of\n\
+         those without a seat. In the one alike everybody lists the same 16 entries in the same order, and half of all candidates get\n\
+         seats.\n\n{}\n\
          ## Stack\n\n{stack}",
         processor(),
         table("offers", classes),
