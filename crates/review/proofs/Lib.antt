@@ -4,6 +4,7 @@ pub mod SeatsRight
 pub mod NothingBetter
 pub mod Unblocked
 pub mod Stability
+pub mod Worked
 pub mod Promised
 pub mod Calling
 pub mod FirstFound
