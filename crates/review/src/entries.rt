@@ -22,7 +22,7 @@ ghost use Rattle.offers.specs.Offers.{stepFor};
 ghost use Rattle.offers.specs.Rows.{rowAt, sameCategory};
 ghost use Rattle.offers.specs.Sweeps.{offerTo, offersBy};
 ghost use Rattle.offers.specs.Held.{AtHand};
-ghost use Rattle.review.specs.Finding.{wouldTake, above, entryFinding};
+ghost use Rattle.review.specs.Finding.{wouldTake, entryFinding};
 ghost use Rattle.review.specs.Outcome.{found, outcomeOf, listOf};
 ghost use Rattle.review.specs.Tables.{UnderReview, AllRead, askedWith, wantedWith, offersWith};
 
