@@ -4,7 +4,7 @@ use mathlib.Core.Path.{_≡_}
 use mathlib.Core.List.{List}
 use Rattle.round.specs.declared.head.Head.{Head as CodeHead}
 use Rattle.round.specs.Round.{Institute, Candidate}
-use Rattle.round.specs.Records.{headOf, bodyOf, instituteRecord}
+use Rattle.round.specs.Records.{formOf, headOf, bodyOf, instituteRecord}
 use Rattle.round.specs.Lists.{tabulate}
 use Rattle.round.specs.Questions.{meritCount, meritIn}
 use Rattle.round.specs.Refusal.{passes, verdict}
@@ -40,8 +40,8 @@ pub record InstituteKnown (file : List ℕ) (h : CodeHead) (j : ℕ) : Type 0 wh
 
 -- a candidate's body
 pub record CandidateRead (file : List ℕ) (i : ℕ) (body : List ℕ) : Type 0 where
-  pub candidate-of : candidateIn body ≡ candidateOf file i
-  pub long : CandidateBody body
+  pub candidate-of : candidateIn (formOf file) body ≡ candidateOf file i
+  pub long : CandidateBody (formOf file) body
 
 -- the body of an institute's merit list
 pub record MeritRead (file : List ℕ) (j : ℕ) (body : List ℕ) : Type 0 where

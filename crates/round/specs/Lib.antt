@@ -1,4 +1,5 @@
 pub mod Category
+pub mod Form
 pub mod Lists
 pub mod Round
 pub mod Records

@@ -1,9 +1,13 @@
--- The questions about one record (document 01, "The questions, in order": 1 to 12).
+-- The questions about one record (document 01, "The questions, in order": 1 to 12; document 02, Point 6). A kind is one of document 01's, 1 to 4, in
+-- both forms.
 use Prim.Native.Nat.{ℕ, suc, _+_, _*_, _-_, _/_, _%_, _^_}
 use mathlib.Core.Bool.{Bool, cond, _&&_, _||_}
 use mathlib.Core.List.{List, [], _∷_, _++_}
 use lib.Dec.{leb, eqb}
 use lib.ListN.{length, getD}
+use Rattle.round.specs.declared.form.Form.{Form}
+use Rattle.round.specs.declared.form.Form.the-variants.{Narrow, Wide}
+use Rattle.round.specs.Form.{institutesMost, kindDue, entryWidth}
 use Rattle.round.specs.Lists.{all, apart, sumOf}
 use Rattle.round.specs.Records.{Head, word, headIn, bodyAt, kindAt, lengthAt}
 
@@ -26,27 +30,31 @@ within low high x = leb low x && leb x high
 abbrev pub even : ℕ → Bool
 even x = eqb (x % 2) 0
 
+-- the body lengths of a candidate: two bytes and 0 to 16 entries
+abbrev pub rowAllowed : Form → ℕ → Bool
+rowAllowed form len = within 2 (2 + 16 * entryWidth form) len && eqb ((len - 2) % entryWidth form) 0
+
 -- 3: the body lengths that the table allows for a kind
 abbrev pub lengthAllowed : Head → ℕ → ℕ → Bool
 lengthAllowed h kind len =
     cond (eqb kind 1) (eqb len 8)
     (cond (eqb kind 2) (eqb len (10 + 10 * h .types))
-    (cond (eqb kind 3) (within 2 34 len && even len) (leb len (2 * h .candidates) && even len)))
+    (cond (eqb kind 3) (rowAllowed (h .form) len) (leb len (2 * h .candidates) && even len)))
 
 -- 1 to 4: what is asked of every record, due with a kind at a byte
 abbrev pub leadQuestions : List ℕ → Head → ℕ → ℕ → List Question
 leadQuestions file h kind start =
     asked 1 (leb (start + 4) (length file))
-    ∷ asked 2 (eqb (kindAt file start) kind)
+    ∷ asked 2 (eqb (kindAt file start) (kindDue (h .form) kind))
     ∷ asked 3 (lengthAllowed h kind (lengthAt file start))
     ∷ asked 4 (leb (start + 4 + lengthAt file start) (length file))
     ∷ []
 
 -- 5: all four numbers of the head are in range
-abbrev pub headQuestions : List ℕ → List Question
-headQuestions body =
-    let h = headIn body in
-    asked 5 (within 1 512 (h .candidates) && (within 1 32 (h .institutes) && (leb (h .types) 8 && leb (h .policy) 1))) ∷ []
+abbrev pub headQuestions : Form → List ℕ → List Question
+headQuestions form body =
+    let h = headIn form body in
+    asked 5 (within 1 512 (h .candidates) && (within 1 (institutesMost form) (h .institutes) && (leb (h .types) 8 && leb (h .policy) 1))) ∷ []
 
 -- the positions of a code in an institute's body, and those of them reserved for type t, from 0
 abbrev pub positionsIn : ℕ → List ℕ → ℕ → ℕ
@@ -65,27 +73,30 @@ instituteQuestions h body =
     ∷ []
 
 -- the number of entries in a candidate's body; the institute number and the code of entry k, from 0
-abbrev pub entryCount : List ℕ → ℕ
-entryCount body = (length body - 2) / 2
+abbrev pub entryCount : Form → List ℕ → ℕ
+entryCount form body = (length body - 2) / entryWidth form
 
-abbrev pub instituteIn : List ℕ → ℕ → ℕ
-instituteIn body k = getD body (2 + 2 * k) 0
+abbrev pub instituteIn : Form → List ℕ → ℕ → ℕ
+instituteIn Narrow body k = getD body (2 + 2 * k) 0
+instituteIn Wide body k = word body (2 + 3 * k)
 
-abbrev pub codeIn : List ℕ → ℕ → ℕ
-codeIn body k = getD body (3 + 2 * k) 0
+abbrev pub codeIn : Form → List ℕ → ℕ → ℕ
+codeIn Narrow body k = getD body (3 + 2 * k) 0
+codeIn Wide body k = getD body (4 + 3 * k) 0
 
 -- 8: the code and the marks; 9: each entry; 10: the entries are all different
 abbrev pub candidateQuestions : Head → List ℕ → List Question
 candidateQuestions h body =
     let own : ℕ = getD body 0 0 in
     let marks : ℕ = getD body 1 0 in
-    let lawful : ℕ → Bool =
-    λ k. within 1 (h .institutes) (instituteIn body k) && (eqb (codeIn body k) 0 || eqb (codeIn body k) own) in
-    let same : ℕ → ℕ → Bool =
-    λ k l. eqb (instituteIn body k) (instituteIn body l) && eqb (codeIn body k) (codeIn body l) in
+    let entries : ℕ = entryCount (h .form) body in
+    let institute : ℕ → ℕ = instituteIn (h .form) body in
+    let code : ℕ → ℕ = codeIn (h .form) body in
+    let lawful : ℕ → Bool = λ k. within 1 (h .institutes) (institute k) && (eqb (code k) 0 || eqb (code k) own) in
+    let same : ℕ → ℕ → Bool = λ k l. eqb (institute k) (institute l) && eqb (code k) (code l) in
     asked 8 (leb own 4 && leb (suc marks) (2 ^ h .types))
-    ∷ asked 9 (all (entryCount body) lawful)
-    ∷ asked 10 (apart (entryCount body) same)
+    ∷ asked 9 (all entries lawful)
+    ∷ asked 10 (apart entries same)
     ∷ []
 
 -- the length of a merit list, by its body, and the candidate number at a place, from 0
@@ -105,7 +116,7 @@ meritQuestions h body =
 -- the questions that go with a kind
 abbrev pub kindQuestions : Head → ℕ → List ℕ → List Question
 kindQuestions h kind body =
-    cond (eqb kind 1) (headQuestions body)
+    cond (eqb kind 1) (headQuestions (h .form) body)
     (cond (eqb kind 2) (instituteQuestions h body)
     (cond (eqb kind 3) (candidateQuestions h body) (meritQuestions h body)))
 

@@ -6,19 +6,21 @@ use lib.Dec.{leb, eqb}
 use lib.ListN.{length, getD, replicate}
 use mathlib.Core.Path.{_≡_}
 use Rattle.round.specs.declared.head as code
+use Rattle.round.specs.declared.form.Form.{Form}
+use Rattle.round.specs.Form.{institutesMost, entryWidth}
 use Rattle.round.specs.Records.{Head}
 use Rattle.round.specs.Questions.{within, instituteIn, codeIn}
 
 -- the numbers of a head that was read
 abbrev pub asHead : code.Head.Head → Head
-asHead h = record { candidates = h .candidates; institutes = h .institutes; types = h .types; policy = h .policy }
+asHead h = record { form = h .form; candidates = h .candidates; institutes = h .institutes; types = h .types; policy = h .policy }
 
 -- the numbers of a head are in range
 pub record InRange (h : Head) : Type 0 where
   pub candidates-least : 1 ≤ h .candidates
   pub candidates-most : h .candidates ≤ 512
   pub institutes-least : 1 ≤ h .institutes
-  pub institutes-most : h .institutes ≤ 32
+  pub institutes-most : h .institutes ≤ institutesMost (h .form)
   pub types-most : h .types ≤ 8
   pub policy-most : h .policy ≤ 1
 
@@ -28,9 +30,9 @@ pub record InstituteBody (types : ℕ) (body : List ℕ) : Type 0 where
   pub long : length body ≡ 10 + 10 * types
 
 -- a body of a length that a candidate's may have
-pub record CandidateBody (body : List ℕ) : Type 0 where
+pub record CandidateBody (form : Form) (body : List ℕ) : Type 0 where
   pub least : 2 ≤ length body
-  pub most : length body ≤ 34
+  pub most : length body ≤ 2 + 16 * entryWidth form
 
 -- what question 8 asks, 9 of one entry, and 10 of two
 abbrev pub marksIn : ℕ → List ℕ → Bool
@@ -38,10 +40,11 @@ marksIn types body = leb (getD body 0 0) 4 && leb (suc (getD body 1 0)) (2 ^ typ
 
 abbrev pub lawfulIn : Head → List ℕ → ℕ → Bool
 lawfulIn h body k =
-    within 1 (h .institutes) (instituteIn body k) && (eqb (codeIn body k) 0 || eqb (codeIn body k) (getD body 0 0))
+    within 1 (h .institutes) (instituteIn (h .form) body k)
+    && (eqb (codeIn (h .form) body k) 0 || eqb (codeIn (h .form) body k) (getD body 0 0))
 
-abbrev pub sameIn : List ℕ → ℕ → ℕ → Bool
-sameIn body k l = eqb (instituteIn body k) (instituteIn body l) && eqb (codeIn body k) (codeIn body l)
+abbrev pub sameIn : Form → List ℕ → ℕ → ℕ → Bool
+sameIn form body k l = eqb (instituteIn form body k) (instituteIn form body l) && eqb (codeIn form body k) (codeIn form body l)
 
 -- the table of the candidate numbers seen in a merit list, before the first: a place for each number, and for 0
 unfoldable pub noneSeen : List ℕ

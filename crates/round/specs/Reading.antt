@@ -1,4 +1,5 @@
--- The round that a file means (document 01, "Round file"), and the steps of the two policies ("One institute chooses").
+-- The round that a file means (document 01, "Round file"; document 02, Point 6), and the steps of the two policies ("One institute chooses"). The two
+-- forms of a file differ in how an entry is read, and in nothing else.
 use Prim.Native.Nat.{ℕ}
 use mathlib.Core.Bool.{cond}
 use mathlib.Core.List.{List, [], _∷_}
@@ -6,6 +7,7 @@ use lib.Dec.{eqb}
 use lib.ListN.{getD, replicate}
 use Rattle.round.specs.declared.entry.Category.the-variants.{Open}
 use Rattle.round.specs.declared.entry.Entry.{Entry}
+use Rattle.round.specs.declared.form.Form.{Form}
 use Rattle.round.specs.Category.{categoryOf}
 use Rattle.round.specs.Lists.{tabulate}
 use Rattle.round.specs.Round.{StepRule, Institute, Candidate, Round}
@@ -36,14 +38,14 @@ stepsIn types policy body =
     ∷ cond (eqb policy 1) (dereserved types ∷ []) []
 
 -- the entry at a place of a candidate's body, from 0
-unfoldable pub entryIn : List ℕ → ℕ → Entry
-entryIn body k = record { institute = instituteIn body k; category = categoryOf (codeIn body k) }
+unfoldable pub entryIn : Form → List ℕ → ℕ → Entry
+entryIn form body k = record { institute = instituteIn form body k; category = categoryOf (codeIn form body k) }
 
-unfoldable pub candidateIn : List ℕ → Candidate
-candidateIn body = record {
+unfoldable pub candidateIn : Form → List ℕ → Candidate
+candidateIn form body = record {
   category = categoryOf (getD body 0 0);
   marks = getD body 1 0;
-  row = tabulate (entryCount body) (entryIn body);
+  row = tabulate (entryCount form body) (entryIn form body);
 }
 
 -- an institute, by its body and that of its merit list
@@ -57,6 +59,6 @@ unfoldable pub roundOf : List ℕ → Round
 roundOf file =
     let h : Head = headOf file in
     record {
-      candidates = tabulate (h .candidates) (λ i. candidateIn (bodyOf file (candidateRecord h i)));
+      candidates = tabulate (h .candidates) (λ i. candidateIn (h .form) (bodyOf file (candidateRecord h i)));
       institutes = tabulate (h .institutes) (λ j. instituteFrom h (bodyOf file (instituteRecord h j)) (bodyOf file (meritRecord h j)));
     }

@@ -1,7 +1,12 @@
--- The records of a file (document 01, "Round file"): where each starts, its body, and the numbers of the head.
+-- The records of a file (document 01, "Round file"; document 02, Point 6): where each starts, its body, the form of the file and the numbers of the
+-- head.
 use Prim.Native.Nat.{ℕ, zero, suc, _+_, _*_}
+use mathlib.Core.Bool.{cond}
 use mathlib.Core.List.{List, _++_}
-use lib.ListN.{getD, take, drop, replicate}
+use lib.Dec.{leb, eqb}
+use lib.ListN.{length, getD, take, drop, replicate}
+use Rattle.round.specs.declared.form.Form.{Form}
+use Rattle.round.specs.declared.form.Form.the-variants.{Narrow, Wide}
 
 -- the two-byte number at a place, little-endian
 abbrev pub word : List ℕ → ℕ → ℕ
@@ -35,20 +40,25 @@ bodyOf file k = bodyAt file (startOf file k)
 abbrev pub recordOf : List ℕ → ℕ → List ℕ
 recordOf file k = take (4 + lengthAt file (startOf file k)) (drop (startOf file k) file)
 
--- the head: candidates n, institutes m, horizontal types L, policy
+-- the form of a file: wide where the record that stands first has kind 5, else narrow; a file without four lead bytes is refused in either form
+unfoldable pub formOf : List ℕ → Form
+formOf file = cond (leb 4 (length file)) (cond (eqb (kindAt file 0) 5) Wide Narrow) Narrow
+
+-- the head: the form, candidates n, institutes m, horizontal types L, policy
 pub record Head : Type 0 where
+  pub form : Form
   pub candidates : ℕ
   pub institutes : ℕ
   pub types : ℕ
   pub policy : ℕ
 
-abbrev pub headIn : List ℕ → Head
-headIn body = record { candidates = word body 0; institutes = word body 2; types = word body 4; policy = word body 6 }
+abbrev pub headIn : Form → List ℕ → Head
+headIn form body = record { form = form; candidates = word body 0; institutes = word body 2; types = word body 4; policy = word body 6 }
 
 abbrev pub headOf : List ℕ → Head
-headOf file = headIn (bodyAt file 0)
+headOf file = headIn (formOf file) (bodyAt file 0)
 
--- the kinds of the records that are due after the head: m institutes, n candidates, m merit lists
+-- the kinds of the records that are due after the head, by document 01's numbers: m institutes, n candidates, m merit lists
 abbrev pub dueAfter : Head → List ℕ
 dueAfter h = replicate (h .institutes) 2 ++ (replicate (h .candidates) 3 ++ replicate (h .institutes) 4)
 

@@ -1,10 +1,12 @@
 // What a round file means that was read, number by number: no layer above speaks of its bytes.
+use crate::candidate::code_in;
 use crate::candidate::entry_count;
+use crate::candidate::institute_in;
 use crate::entry::Entry;
 use crate::entry::category_of;
+use crate::form::form_of;
 use crate::head::Head;
 use crate::merit::merit_in;
-use crate::word::wide;
 use crate::word::word;
 ghost use mathlib.Core.Path.{_≡_};
 ghost use Prim.Native.Nat.{_+_, _<_, _≤_};
@@ -53,7 +55,8 @@ pub fn row_length(file: &[u8], starts: &[usize], i: usize) -> usize
     requires { ⌜ CandidateKnown (now file) (now starts) i ⌝ }
     ensures { λ r. ⌜ r ≡ length (candidateOf (now (file .entry)) i .row) ⌝ }
 {
-    entry_count(candidate_body(file, starts, i))
+    let form = form_of(file);
+    entry_count(candidate_body(file, starts, i), form)
 }
 
 // The entry at a place of a candidate's row, from 0: the one function that reads rows.
@@ -62,9 +65,10 @@ pub fn row_entry(file: &[u8], starts: &[usize], i: usize, k: usize) -> Entry
     requires { ⌜ k < length (candidateOf (now file) i .row) ⌝ }
     ensures { λ r. ⌜ r ≡ entryAt (candidateOf (now (file .entry)) i) k ⌝ }
 {
+    let form = form_of(file);
     let body = candidate_body(file, starts, i);
-    let institute = wide(body[2 + 2 * k]);
-    let category = category_of(body[3 + 2 * k]);
+    let institute = institute_in(body, form, k);
+    let category = category_of(code_in(body, form, k));
     Entry {
         institute,
         category,

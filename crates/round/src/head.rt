@@ -1,4 +1,6 @@
 // The head: its numbers, and question 5.
+use crate::form::Form;
+use crate::form::institutes_most;
 use crate::word::within;
 use crate::word::word;
 ghost use mathlib.Core.Path.{_≡_};
@@ -8,24 +10,26 @@ ghost use Rattle.round.specs.Records.{headIn};
 ghost use Rattle.round.specs.Questions.{firstNo, headQuestions};
 ghost use Rattle.round.specs.Read.{asHead};
 
-// The numbers of a round: candidates n, institutes m, horizontal types L, policy.
+// The form of a file and the numbers of its round: candidates n, institutes m, horizontal types L, policy.
 pub struct Head {
+    pub form: Form,
     pub candidates: usize,
     pub institutes: usize,
     pub types: usize,
     pub policy: usize,
 }
 
-// The numbers in a head's body.
-pub fn head_in(body: &[u8]) -> Head
+// The head, by its body and the form of the file.
+pub fn head_in(body: &[u8], form: Form) -> Head
     requires { ⌜ 8 ≤ length (now body) ⌝ }
-    ensures { λ r. ⌜ asHead r ≡ headIn (now (body .entry)) ⌝ }
+    ensures { λ r. ⌜ asHead r ≡ headIn form (now (body .entry)) ⌝ }
 {
     let candidates = word(body, 0);
     let institutes = word(body, 2);
     let types = word(body, 4);
     let policy = word(body, 6);
     Head {
+        form,
         candidates,
         institutes,
         types,
@@ -34,9 +38,9 @@ pub fn head_in(body: &[u8]) -> Head
 }
 
 // The number of the first question about a head's body whose answer is no, 0 where it is yes.
-pub fn head_no(body: &[u8]) -> usize
+pub fn head_no(body: &[u8], form: Form) -> usize
     requires { ⌜ 8 ≤ length (now body) ⌝ }
-    ensures { λ r. ⌜ r ≡ firstNo (headQuestions (now (body .entry))) ⌝ }
+    ensures { λ r. ⌜ r ≡ firstNo (headQuestions form (now (body .entry))) ⌝ }
 {
     let candidates = word(body, 0);
     let institutes = word(body, 2);
@@ -45,7 +49,7 @@ pub fn head_no(body: &[u8]) -> usize
     if !within(1, 512, candidates) {
         return 5;
     }
-    if !within(1, 32, institutes) {
+    if !within(1, institutes_most(form), institutes) {
         return 5;
     }
     if 8 < types {

@@ -3,6 +3,7 @@ pub mod access;
 pub mod candidate;
 pub mod clearing;
 pub mod entry;
+pub mod form;
 pub mod head;
 pub mod institute;
 pub mod merit;

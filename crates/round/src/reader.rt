@@ -1,4 +1,6 @@
 // The reader of a round file: questions 1 to 13.
+use crate::form::Form;
+use crate::form::form_of;
 use crate::head::Head;
 use crate::head::head_in;
 use crate::records::Part;
@@ -7,8 +9,9 @@ use crate::records::read_record;
 ghost use mathlib.Core.Path.{_≡_};
 ghost use Prim.Native.Nat.{_≤_};
 ghost use lib.ListN.{length};
+ghost use Rattle.round.specs.Form.{institutesMost};
+ghost use Rattle.round.specs.Records.{formOf};
 ghost use Rattle.round.specs.Read.{asHead, InRange};
-ghost use Rattle.round.specs.Parts.{RunPart};
 ghost use Rattle.round.specs.Outcome.{refusalOf, RestRead, RoundRead};
 
 // What reading a file comes to: the numbers of its round, or the first question answered no and its byte.
@@ -37,18 +40,26 @@ pub fn candidate_table() -> [usize; 512]
     [0; 512]
 }
 
-// A table for where the records of the institutes, or of their merit lists, start.
-pub fn institute_table() -> [usize; 32]
+// A table for where the merit lists of a narrow file start.
+pub fn narrow_table() -> [usize; 32]
     ensures { λ r. ⌜ length r ≡ 32 ⌝ }
 {
     [0; 32]
 }
 
-// The numbers that stand in for a head while none is read.
-fn unread() -> Head
-    ensures { λ r. ⌜ InRange (asHead r) ⌝ }
+// A table for where the merit lists of any file start.
+pub fn wide_table() -> [usize; 1000]
+    ensures { λ r. ⌜ length r ≡ 1000 ⌝ }
+{
+    [0; 1000]
+}
+
+// The numbers that stand in for a head while none but the form is read.
+fn unread(form: Form) -> Head
+    ensures { λ r. ⌜ InRange (asHead r) × (r .form ≡ form) ⌝ }
 {
     Head {
+        form,
         candidates: 1,
         institutes: 1,
         types: 0,
@@ -56,17 +67,8 @@ fn unread() -> Head
     }
 }
 
-// The institutes' records, from behind the head. Nobody asks later where they start: they have one length.
-fn read_institutes(file: &[u8], from: usize, h: Head) -> Part
-    requires { ⌜ InRange (asHead h) ⌝ }
-    requires { ⌜ from ≤ length (now file) ⌝ }
-    ensures { λ r. ⌜ RunPart (now (file .entry)) (asHead h) 2 (h .institutes) from r ⌝ }
-{
-    let mut places = institute_table();
-    read_kind(file, from, h, 2, h.institutes, &mut places)
-}
-
-// The records after the head, and the end of the file.
+// The records after the head, and the end of the file. Nobody asks later where the institutes' records start, which have one length: the table
+// of merit lists has them for a while.
 fn read_rest(
     file: &[u8],
     from: usize,
@@ -76,12 +78,12 @@ fn read_rest(
 ) -> Reading
     requires { ⌜ InRange (asHead h) ⌝ }
     requires { ⌜ from ≤ length (now file) ⌝ }
-    requires { ⌜ (512 ≤ length (now candidates)) × (32 ≤ length (now merits)) ⌝ }
+    requires { ⌜ (512 ≤ length (now candidates)) × (institutesMost (h .form) ≤ length (now merits)) ⌝ }
     ensures { λ r. ⌜ RestRead (now (file .entry)) (asHead h) from r
         (now (candidates .entry)) (now (candidates .exit))
         (now (merits .entry)) (now (merits .exit)) ⌝ }
 {
-    let institutes = read_institutes(file, from, h);
+    let institutes = read_kind(file, from, h, 2, h.institutes, merits);
     let Part::Lawful { end } = institutes else {
         return handed(institutes);
     };
@@ -106,15 +108,16 @@ fn read_rest(
 // A round file: refused with the first question answered no and its byte, or read, with where each candidate's record and
 // each merit list's starts.
 pub fn read_round(file: &[u8], candidates: &mut [usize], merits: &mut [usize]) -> Reading
-    requires { ⌜ (512 ≤ length (now candidates)) × (32 ≤ length (now merits)) ⌝ }
+    requires { ⌜ (512 ≤ length (now candidates)) × (institutesMost (formOf (now file)) ≤ length (now merits)) ⌝ }
     ensures { λ r. ⌜ RoundRead (now (file .entry)) r
         (now (candidates .entry)) (now (candidates .exit))
         (now (merits .entry)) (now (merits .exit)) ⌝ }
 {
-    let first = read_record(file, 0, unread(), 1);
+    let form = form_of(file);
+    let first = read_record(file, 0, unread(form), 1);
     let Part::Lawful { end } = first else {
         return handed(first);
     };
-    let h = head_in(&file[4..end]);
+    let h = head_in(&file[4..end], form);
     read_rest(file, end, h, candidates, merits)
 }

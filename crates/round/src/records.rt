@@ -1,5 +1,8 @@
 // Records: questions 1 to 4, one record, and the records of one kind in a row.
 use crate::candidate::candidate_no;
+use crate::form::Form;
+use crate::form::entry_width;
+use crate::form::kind_due;
 use crate::head::Head;
 use crate::head::head_no;
 use crate::institute::institute_no;
@@ -11,7 +14,7 @@ ghost use mathlib.Core.Bool.{true};
 ghost use Prim.Native.Nat.{_≤_};
 ghost use lib.ListN.{length};
 ghost use Rattle.round.specs.Records.{nextAt};
-ghost use Rattle.round.specs.Questions.{firstNo, leadQuestions, kindQuestions, questionsAt, lengthAllowed};
+ghost use Rattle.round.specs.Questions.{firstNo, leadQuestions, kindQuestions, questionsAt, rowAllowed, lengthAllowed};
 ghost use Rattle.round.specs.Read.{asHead, InRange};
 ghost use Rattle.round.specs.Parts.{partBy, RunRead};
 
@@ -19,6 +22,17 @@ ghost use Rattle.round.specs.Parts.{partBy, RunRead};
 pub enum Part {
     Lawful { end: usize },
     Refused { number: usize, offset: usize },
+}
+
+// Whether a candidate's body may have a length.
+fn row_allowed(form: Form, len: usize) -> bool
+    ensures { λ r. ⌜ r ≡ rowAllowed form len ⌝ }
+{
+    let width = entry_width(form);
+    if !within(2, 2 + 16 * width, len) {
+        return false;
+    }
+    (len - 2) % width == 0
 }
 
 // Whether the table allows a body length for a kind.
@@ -33,10 +47,8 @@ fn length_allowed(h: Head, kind: usize, len: usize) -> bool
         return len == 10 + 10 * h.types;
     }
     if kind == 3 {
-        if !within(2, 34, len) {
-            return false;
-        }
-        return len % 2 == 0;
+        let form = h.form;
+        return row_allowed(form, len);
     }
     if 2 * h.candidates < len {
         return false;
@@ -56,7 +68,8 @@ fn find_record(file: &[u8], at: usize, h: Head, kind: usize) -> Part
             offset: at,
         };
     }
-    if word(file, at + 2) != kind {
+    let form = h.form;
+    if word(file, at + 2) != kind_due(form, kind) {
         return Part::Refused {
             number: 2,
             offset: at,
@@ -85,8 +98,9 @@ fn body_no(body: &[u8], h: Head, kind: usize) -> usize
     requires { ⌜ lengthAllowed (asHead h) kind (length (now body)) ≡ true ⌝ }
     ensures { λ r. ⌜ r ≡ firstNo (kindQuestions (asHead h) kind (now (body .entry))) ⌝ }
 {
+    let form = h.form;
     match kind {
-        1 => head_no(body),
+        1 => head_no(body, form),
         2 => institute_no(body, h),
         3 => candidate_no(body, h),
         _ => merit_no(body, h),

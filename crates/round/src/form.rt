@@ -1,0 +1,63 @@
+// The two forms of a round file: narrow, with entries of two bytes, and wide, with entries of three.
+use crate::word::word;
+ghost use mathlib.Core.Path.{_≡_};
+ghost use Rattle.round.specs.Form.{institutesMost, kindDue, entryWidth};
+ghost use Rattle.round.specs.Records.{formOf};
+
+// The form of a file, and so of the seats of its round.
+pub enum Form {
+    Narrow,
+    Wide,
+}
+
+// The form of a file, by the kind of its head.
+pub fn form_of(file: &[u8]) -> Form
+    ensures { λ r. ⌜ r ≡ formOf (now (file .entry)) ⌝ }
+{
+    if file.len() < 4 {
+        return Form::Narrow;
+    }
+    if word(file, 2) == 5 {
+        Form::Wide
+    } else {
+        Form::Narrow
+    }
+}
+
+// The most institutes that a round may have.
+pub fn institutes_most(form: Form) -> usize
+    ensures { λ r. ⌜ r ≡ institutesMost form ⌝ }
+{
+    match form {
+        Form::Narrow => 32,
+        Form::Wide => 1000,
+    }
+}
+
+// The bytes of an entry.
+pub fn entry_width(form: Form) -> usize
+    ensures { λ r. ⌜ r ≡ entryWidth form ⌝ }
+{
+    match form {
+        Form::Narrow => 2,
+        Form::Wide => 3,
+    }
+}
+
+// The kind that stands in a file for one of the kinds 1 to 4.
+pub fn kind_due(form: Form, kind: usize) -> usize
+    ensures { λ r. ⌜ r ≡ kindDue form kind ⌝ }
+{
+    match form {
+        Form::Narrow => kind,
+        Form::Wide => {
+            if kind == 1 {
+                return 5;
+            }
+            if kind == 3 {
+                return 6;
+            }
+            kind
+        }
+    }
+}
