@@ -8,11 +8,11 @@ ghost use mathlib.Core.Path.{_≡_};
 ghost use lib.ListN.{length};
 ghost use Rattle.page.specs.Page.{printed};
 
-// Room for as much of the input as decides what is printed (law `first-bytes` of `page`): the longest lawful file and one byte more.
-fn input_room() -> [u8; 55373]
-    ensures { λ r. ⌜ length r ≡ 55373 ⌝ }
+// Room for as much of the input as decides what is printed (law `first-bytes` of `page`): the longest input that is read and one byte more.
+fn input_room() -> [u8; 65537]
+    ensures { λ r. ⌜ length r ≡ 65537 ⌝ }
 {
-    [0; 55373]
+    [0; 65537]
 }
 
 // One line on standard error.
@@ -36,7 +36,7 @@ fn hand_out(file: &[u8], text: &[u8]) -> bool
 fn main() {
     let mut input = input_room();
     let size = io::read_full(STDIN_FILENO, &mut input);
-    if size < 55373 && !ended() {
+    if size < 65537 && !ended() {
         say(b"allot: the input could not be read\n");
         return;
     }

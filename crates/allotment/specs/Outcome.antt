@@ -1,12 +1,14 @@
--- What a call answers and what it leaves in both areas (document 01, "The questions, in order" and "Offers"; document 02, Point 3), for every
--- input.
+-- What a call answers and what it leaves in both areas (document 01, "The questions, in order" and "Offers"; document 02, Points 3 and 6), for
+-- every input.
 use Prim.Native.Nat.{ℕ}
 use mathlib.Core.Path.{_≡_}
 use mathlib.Core.Bool.{cond, _&&_}
 use mathlib.Core.List.{List, _++_}
 use lib.Dec.{leb}
 use lib.ListN.{length, drop, replicate}
+use Rattle.round.specs.declared.form.Form.{Form}
 use Rattle.round.specs.Round.{Round}
+use Rattle.round.specs.Records.{formOf}
 use Rattle.round.specs.Reading.{roundOf}
 use Rattle.round.specs.Refusal as Refusal
 use Rattle.round.specs.Refusal.{Verdict, verdict}
@@ -27,18 +29,18 @@ outcomeOf (Allotted offers) = allotted offers
 outcomeOf (Refused number offset) = refused number offset
 
 -- 14: both areas are large enough
-abbrev pub outcomeOn : Round → ℕ → ℕ → Outcome
-outcomeOn r answerLength workLength =
+abbrev pub outcomeOn : Form → Round → ℕ → ℕ → Outcome
+outcomeOn form r answerLength workLength =
     let all-well = allotted (offersMade r) in
-    cond (leb (answerSize r) answerLength && leb (workSize r) workLength) all-well (refused 14 0)
+    cond (leb (answerSize form r) answerLength && leb (workSize r) workLength) all-well (refused 14 0)
 
-abbrev pub outcomeBy : Verdict → Round → ℕ → ℕ → Outcome
-outcomeBy Refusal.passes r answerLength workLength = outcomeOn r answerLength workLength
-outcomeBy (Refusal.refused number offset) r answerLength workLength = refused number offset
+abbrev pub outcomeBy : Verdict → Form → Round → ℕ → ℕ → Outcome
+outcomeBy Refusal.passes form r answerLength workLength = outcomeOn form r answerLength workLength
+outcomeBy (Refusal.refused number offset) form r answerLength workLength = refused number offset
 
 -- the outcome for a file and the lengths of both areas
 unfoldable pub outcome : List ℕ → ℕ → ℕ → Outcome
-outcome file answerLength workLength = outcomeBy (verdict file) (roundOf file) answerLength workLength
+outcome file answerLength workLength = outcomeBy (verdict file) (formOf file) (roundOf file) answerLength workLength
 
 -- an area after a call: these bytes and the rest as it was, or, on a refusal, as it was
 abbrev pub areaBy : Outcome → List ℕ → List ℕ → List ℕ
@@ -48,7 +50,7 @@ areaBy (refused number offset) bytes area = area
 -- the answer area after a call
 unfoldable pub answerAfter : List ℕ → List ℕ → List ℕ → List ℕ
 answerAfter file answer work =
-    let bytes = answerBytes (roundOf file) in
+    let bytes = answerBytes (formOf file) (roundOf file) in
     areaBy (outcome file (length answer) (length work)) bytes answer
 
 -- the work area after a call: the first 8n bytes are 0 and the rest stay

@@ -1,10 +1,12 @@
 -- The promise of the public call: demands 1, 2 and 3 of the letter, for every input, with the closing places of document 02, Point 1, that any
--- order of offers ends, with the offers, seats and steps of the list, its Point 2, and the types used, its Point 3. That no call reads outside
+-- order of offers ends, with the offers, seats and steps of the list, its Point 2, and the types used, its Point 3; files of both forms, its Point 6,
+-- are files like any other. That no call reads outside
 -- the file, goes wrong or fails to finish is part of what it is for a function to be proved.
 use mathlib.Core.Path.{_≡_}
 use Prim.Native.Nat.{ℕ}
 use mathlib.Core.List.{List}
 use lib.ListN.{length}
+use Rattle.round.specs.Records.{formOf}
 use Rattle.round.specs.Reading.{roundOf}
 use Rattle.allotment.specs.declared.Answer.{Answer}
 use Rattle.offers.specs.Process.{candidateCount}
@@ -23,7 +25,7 @@ pub record Promise (file answer work : List ℕ) (result : Answer) (answerNow wo
   pub answerArea : answerNow ≡ answerAfter file answer work
   pub workArea : workNow ≡ workAfter file answer work
   pub truthful : Accepted file answer work → Truthful file answerNow
-  pub stable : Accepted file answer work → Stable (roundOf file) (seatsIn (candidateCount (roundOf file)) answerNow)
+  pub stable : Accepted file answer work → Stable (roundOf file) (seatsIn (formOf file) (candidateCount (roundOf file)) answerNow)
   pub process : Accepted file answer work → AtEnd (roundOf file)
   pub anyOrder : Accepted file answer work → AnyOrder (roundOf file)
-  pub types : Accepted file answer work → Published (roundOf file) answerNow
+  pub types : Accepted file answer work → Published (formOf file) (roundOf file) answerNow

@@ -4,7 +4,7 @@ use mathlib.Core.Path.{_≡_}
 use mathlib.Core.Logic.{_≢_}
 use mathlib.Core.List.{List}
 use lib.ListN.{take}
-use Rattle.round.specs.Records.{headOf, recordOf, bodyOf, candidateRecord, recordCount}
+use Rattle.round.specs.Records.{formOf, headOf, recordOf, bodyOf, candidateRecord, recordCount}
 use Rattle.round.specs.Reading.{roundOf}
 use Rattle.offers.specs.Standing.{standing}
 use Rattle.offers.specs.Areas.{seatIn}
@@ -25,4 +25,4 @@ unfoldable pub Truthful : List ℕ → List ℕ → Type 0
 Truthful file now =
     (other answer work : List ℕ) → Accepted other answer work →
     (i : ℕ) → Alike file other i →
-    standing (roundOf file) i (seatIn now i) ≤ standing (roundOf file) i (seatIn (answerAfter other answer work) i)
+    standing (roundOf file) i (seatIn (formOf file) now i) ≤ standing (roundOf file) i (seatIn (formOf other) (answerAfter other answer work) i)

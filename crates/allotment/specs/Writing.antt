@@ -1,5 +1,5 @@
 -- What the functions that write the answer area speak of: the seats that two arrays hold, the types used, and who came in by merit.
-use Prim.Native.Nat.{ℕ, _-_, max}
+use Prim.Native.Nat.{ℕ, _-_, _≤_, _<_, max}
 use mathlib.Core.Path.{_≡_}
 use mathlib.Core.Bool.{cond}
 use mathlib.Core.List.{List}
@@ -7,6 +7,8 @@ use lib.Dec.{eqb}
 use lib.ListN.{length, getD, set}
 use Rattle.round.specs.Lists.{tabulate, joined}
 use Rattle.round.specs.declared.head.Head.{Head as CodeHead}
+use Rattle.round.specs.declared.form.Form.{Form}
+use Rattle.round.specs.Form.{institutesMost}
 use Rattle.round.specs.Records.{headOf}
 use Rattle.round.specs.Reading.{roundOf}
 use Rattle.round.specs.Read.{asHead}
@@ -25,10 +27,14 @@ unfoldable pub seatsHeld : List ℕ → List ℕ → List Seat
 seatsHeld holders steps = tabulate (length holders) (seatHeld holders steps)
 
 -- the bytes of the seats that two arrays hold
-unfoldable pub heldBytes : List ℕ → List ℕ → List ℕ
-heldBytes holders steps =
+unfoldable pub heldBytes : Form → List ℕ → List ℕ → List ℕ
+heldBytes form holders steps =
     let list : List Seat = seatsHeld holders steps in
-    joined (tabulate (length holders) (λ i. seatBytes (getD list i noSeat)))
+    joined (tabulate (length holders) (λ i. seatBytes form (getD list i noSeat)))
+
+-- each number of an array is 0 or that of an institute which a file of the form may have
+abbrev pub HoldersFew : Form → List ℕ → Type 0
+HoldersFew form holders = (i : ℕ) → i < length holders → getD holders i 0 ≤ institutesMost form
 
 -- the step at which the institute with a number holds candidate i, by three arrays, where no type is used; else 0
 abbrev pub meritStep : List ℕ → List ℕ → List ℕ → ℕ → ℕ → ℕ

@@ -1,16 +1,22 @@
 // The bytes of the answer area: the seats, then the closing places, then the types used.
 use crate::closing::closing_places;
+use round::form::Form;
+use round::form::seats_size;
 use round::head::Head;
+use round::word::long;
 ghost use mathlib.Core.Path.{_≡_};
 ghost use mathlib.Core.List.{_++_};
+ghost use Rattle.round.specs.declared.form.Form.the-variants.{Narrow, Wide};
 ghost use Prim.Native.Nat.{_+_, _*_, _<_, _≤_};
 ghost use lib.ListN.{length, drop};
 ghost use lib.Seq.{sets};
+ghost use Rattle.round.specs.Form.{institutesMost, seatWidth};
 ghost use Rattle.round.specs.Lists.{tabulate, joined};
-ghost use Rattle.round.specs.Records.{headOf};
+ghost use Rattle.round.specs.Records.{formOf, headOf};
 ghost use Rattle.round.specs.Reading.{roundOf};
-ghost use Rattle.allotment.specs.Areas.{wordBytes, closingBytes, answerBytes, answerSize};
-ghost use Rattle.allotment.specs.Writing.{heldBytes, AnswerKnown, ClosingKnown};
+ghost use Rattle.offers.specs.Areas.{wordBytes, seatBytes};
+ghost use Rattle.allotment.specs.Areas.{closingBytes, answerBytes, answerSize};
+ghost use Rattle.allotment.specs.Writing.{heldBytes, HoldersFew, AnswerKnown, ClosingKnown};
 
 // A two-byte number, little-endian.
 fn write_word(area: &mut [u8], at: usize, x: usize)
@@ -21,15 +27,46 @@ fn write_word(area: &mut [u8], at: usize, x: usize)
     area[at + 1] = (x / 256 % 256) as u8;
 }
 
-// For each candidate, institute and step.
-fn write_seats(holders: &[u8], steps: &[u8], area: &mut [u8])
-    requires { ⌜ length (now steps) ≡ length (now holders) ⌝ }
-    requires { ⌜ 2 * length (now holders) ≤ length (now area) ⌝ }
-    ensures { λ _. ⌜ now (area .exit) ≡ sets (now (area .entry)) 0 (heldBytes (now (holders .entry)) (now (steps .entry))) ⌝ }
+// The seat of candidate i, from 0: institute and step.
+fn write_narrow(area: &mut [u8], i: usize, institute: usize, step: u8)
+    requires { ⌜ (2 * i + 2 ≤ length (now area)) × (institute < 256) ⌝ }
+    ensures { λ _. ⌜ now (area .exit) ≡ sets (now (area .entry)) (2 * i) (seatBytes Narrow (record { institute = institute; step = step })) ⌝ }
+{
+    area[2 * i] = institute as u8;
+    area[2 * i + 1] = step;
+}
+
+// The seat of candidate i, from 0: a two-byte institute, the step and a zero byte.
+fn write_wide(area: &mut [u8], i: usize, institute: usize, step: u8)
+    requires { ⌜ 4 * i + 4 ≤ length (now area) ⌝ }
+    ensures { λ _. ⌜ now (area .exit) ≡ sets (now (area .entry)) (4 * i) (seatBytes Wide (record { institute = institute; step = step })) ⌝ }
+{
+    write_word(area, 4 * i, institute);
+    area[4 * i + 3] = 0;
+    area[4 * i + 2] = step;
+}
+
+// The seat of candidate i, from 0, in the form of the file.
+fn write_seat(area: &mut [u8], form: Form, i: usize, institute: usize, step: u8)
+    requires { ⌜ (seatWidth form * i + seatWidth form ≤ length (now area)) × (institute ≤ institutesMost form) ⌝ }
+    requires { ⌜ i < 512 ⌝ }
+    ensures { λ _. ⌜ now (area .exit) ≡ sets (now (area .entry)) (seatWidth form * i) (seatBytes form (record { institute = institute; step = step })) ⌝ }
+{
+    match form {
+        Form::Narrow => write_narrow(area, i, institute, step),
+        Form::Wide => write_wide(area, i, institute, step),
+    }
+}
+
+// For each candidate, the seat.
+fn write_seats(form: Form, holders: &[u16], steps: &[u8], area: &mut [u8])
+    requires { ⌜ (length (now steps) ≡ length (now holders)) × (length (now holders) ≤ 512) ⌝ }
+    requires { ⌜ HoldersFew form (now holders) ⌝ }
+    requires { ⌜ seatWidth form * length (now holders) ≤ length (now area) ⌝ }
+    ensures { λ _. ⌜ now (area .exit) ≡ sets (now (area .entry)) 0 (heldBytes form (now (holders .entry)) (now (steps .entry))) ⌝ }
 {
     for i in 0..holders.len() {
-        area[2 * i] = holders[i];
-        area[2 * i + 1] = steps[i];
+        write_seat(area, form, i, long(holders[i]), steps[i]);
     }
 }
 
@@ -37,7 +74,7 @@ fn write_seats(holders: &[u8], steps: &[u8], area: &mut [u8])
 fn write_institute(
     file: &[u8],
     merits: &[usize],
-    holders: &[u8],
+    holders: &[u16],
     steps: &[u8],
     types: &[u8],
     j: usize,
@@ -60,7 +97,7 @@ fn write_closings(
     file: &[u8],
     institutes: usize,
     merits: &[usize],
-    holders: &[u8],
+    holders: &[u16],
     steps: &[u8],
     types: &[u8],
     area: &mut [u8],
@@ -92,18 +129,20 @@ pub fn write_answer(
     file: &[u8],
     h: Head,
     merits: &[usize],
-    holders: &[u8],
+    holders: &[u16],
     steps: &[u8],
     types: &[u8],
     answer: &mut [u8],
 )
     requires { ⌜ AnswerKnown (now file) h (now merits) (now holders) (now steps) (now types) ⌝ }
-    requires { ⌜ answerSize (roundOf (now file)) ≤ length (now answer) ⌝ }
+    requires { ⌜ answerSize (formOf (now file)) (roundOf (now file)) ≤ length (now answer) ⌝ }
     ensures { λ _. ⌜ now (answer .exit)
-        ≡ answerBytes (roundOf (now (file .entry))) ++ drop (answerSize (roundOf (now (file .entry)))) (now (answer .entry)) ⌝ }
+        ≡ answerBytes (formOf (now (file .entry))) (roundOf (now (file .entry)))
+        ++ drop (answerSize (formOf (now (file .entry))) (roundOf (now (file .entry)))) (now (answer .entry)) ⌝ }
 {
-    let closings = 2 * holders.len();
-    write_seats(holders, steps, answer);
+    let form = h.form;
+    let closings = seats_size(form, holders.len());
+    write_seats(form, holders, steps, answer);
     write_closings(
         file,
         h.institutes,

@@ -1,6 +1,7 @@
 // Closing places: the largest merit places among those whom the steps of an institute seated in their fill by merit.
 use round::access::merit_length;
 use round::access::merit_place;
+use round::word::long;
 use round::word::wide;
 ghost use mathlib.Core.Path.{_≡_};
 ghost use Prim.Native.Nat.{max, _≤_, _<_};
@@ -11,11 +12,11 @@ ghost use Rattle.allotment.specs.Areas.{closingPlaces};
 ghost use Rattle.allotment.specs.Writing.{meritStep, withPlace, ClosingKnown};
 
 // The step at which an institute holds a candidate, from 0, under no type; else 0.
-fn merit_step(holders: &[u8], steps: &[u8], types: &[u8], i: usize, institute: usize) -> usize
+fn merit_step(holders: &[u16], steps: &[u8], types: &[u8], i: usize, institute: usize) -> usize
     requires { ⌜ (i < length (now holders)) × (i < length (now steps)) × (i < length (now types)) ⌝ }
     ensures { λ r. ⌜ r ≡ meritStep (now (holders .entry)) (now (steps .entry)) (now (types .entry)) institute i ⌝ }
 {
-    if wide(holders[i]) != institute {
+    if long(holders[i]) != institute {
         return 0;
     }
     if types[i] != 0 {
@@ -52,7 +53,7 @@ fn keep_place(places: &mut [usize], step: usize, place: usize)
 pub fn closing_places(
     file: &[u8],
     merits: &[usize],
-    holders: &[u8],
+    holders: &[u16],
     steps: &[u8],
     types: &[u8],
     j: usize,

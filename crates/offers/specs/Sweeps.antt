@@ -57,7 +57,7 @@ pub record OffersMade (r : Round) (steps tried₀ asked₀ wanted₀ tried asked
   pub asked-now : asked ≡ tabulate (candidateCount r) (askedNext r steps tried₀ asked₀)
   pub wanted-now : wanted ≡ tabulate (candidateCount r) (wantedNext r steps tried₀ wanted₀)
   pub number : made ≡ count (candidateCount r) (mayTry r tried₀ steps)
-  pub fresh-many : length fresh ≡ 32
+  pub fresh-many : length fresh ≡ 1000
   pub fresh-new : (i : ℕ) → i < candidateCount r → mayTry r tried₀ steps i ≡ true → getD fresh (nextEntry r tried₀ i .institute - 1) 0 ≢ 0
 
 -- the categories of candidate c's offer, by two tables, where it is made to the institute with a number, else none

@@ -23,7 +23,7 @@ pub fn choose_listed(
     candidates: &[usize],
     merits: &[usize],
     j: usize,
-    asked: &[u8],
+    asked: &[u16],
     wanted: &[u8],
     first: bool,
     who: &mut [u16],
@@ -73,7 +73,7 @@ pub fn choose_anew(
     candidates: &[usize],
     merits: &[usize],
     j: usize,
-    asked: &[u8],
+    asked: &[u16],
     wanted: &[u8],
     steps: &mut [u8],
 )
@@ -108,17 +108,17 @@ pub fn choose_all(
     h: Head,
     candidates: &[usize],
     merits: &[usize],
-    asked: &[u8],
+    asked: &[u16],
     wanted: &[u8],
     fresh: &mut [u8],
     steps: &mut [u8],
 )
     requires { ⌜ AtHand (now file) h (now candidates) (now merits) ⌝ }
     requires { ⌜ (length (now asked) ≡ h .candidates) × (length (now wanted) ≡ h .candidates) × (length (now steps) ≡ h .candidates)
-        × (length (now fresh) ≡ 32) ⌝ }
+        × (length (now fresh) ≡ 1000) ⌝ }
     ensures { λ _. ⌜ ChosenAll (roundOf (now (file .entry))) (now (asked .entry)) (now (wanted .entry)) (now (fresh .entry)) (h .institutes)
         (now (steps .entry)) (now (steps .exit))
-        × (length (now (fresh .exit)) ≡ 32) ⌝ }
+        × (length (now (fresh .exit)) ≡ 1000) ⌝ }
 {
     for j in 0..h.institutes {
         if fresh[j] != 0 {

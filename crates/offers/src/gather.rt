@@ -2,7 +2,7 @@
 use round::access::candidate_marks;
 use round::access::merit_length;
 use round::access::merit_place;
-use round::word::wide;
+use round::word::long;
 ghost use mathlib.Core.Path.{_≡_};
 ghost use Prim.Native.Nat.{suc, _≤_, _<_};
 ghost use lib.ListN.{length};
@@ -13,11 +13,11 @@ ghost use Rattle.round.specs.Access.{instituteOf, MeritKnown};
 ghost use Rattle.offers.specs.Sweeps.{offerTo, Gathered};
 
 // The categories of candidate c's offer, by two tables, where it is made to the institute with a number, else none.
-pub fn offer_to(asked: &[u8], wanted: &[u8], number: usize, c: usize) -> u8
+pub fn offer_to(asked: &[u16], wanted: &[u8], number: usize, c: usize) -> u8
     requires { ⌜ (c < length (now asked)) × (c < length (now wanted)) ⌝ }
     ensures { λ r. ⌜ r ≡ offerTo number (now (asked .entry)) (now (wanted .entry)) c ⌝ }
 {
-    if wide(asked[c]) == number {
+    if long(asked[c]) == number {
         wanted[c]
     } else {
         0
@@ -30,7 +30,7 @@ pub fn gather(
     candidates: &[usize],
     merits: &[usize],
     j: usize,
-    asked: &[u8],
+    asked: &[u16],
     wanted: &[u8],
     who: &mut [u16],
     marks: &mut [u8],

@@ -1,8 +1,9 @@
 // The offers of a round.
 pub mod choosing;
 pub mod gather;
+pub mod list;
 pub mod offering;
 pub mod process;
 mod scatter;
-mod table;
+pub mod table;
 pub mod types;

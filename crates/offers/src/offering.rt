@@ -41,14 +41,14 @@ fn offer_next(
     candidates: &[usize],
     i: usize,
     tried: &mut [u8],
-    asked: &mut [u8],
+    asked: &mut [u16],
     wanted: &mut [u8],
     fresh: &mut [u8],
 )
     requires { ⌜ CandidateKnown (now file) (now candidates) i ⌝ }
     requires { ⌜ getD (now tried) i 0 < length (rowAt (roundOf (now file)) i) ⌝ }
     requires { ⌜ (i < length (now tried)) × (i < length (now asked)) × (i < length (now wanted))
-        × (length (now fresh) ≡ 32) ⌝ }
+        × (length (now fresh) ≡ 1000) ⌝ }
     ensures { λ _. ⌜ OfferMade (roundOf (now (file .entry))) i
         (now (tried .entry)) (now (asked .entry)) (now (wanted .entry)) (now (fresh .entry))
         (now (tried .exit)) (now (asked .exit)) (now (wanted .exit)) (now (fresh .exit)) ⌝ }
@@ -57,7 +57,7 @@ fn offer_next(
     let institute = entry.institute;
     let category = entry.category;
     tried[i] += 1;
-    asked[i] = institute as u8;
+    asked[i] = institute as u16;
     wanted[i] = only(category);
     fresh[institute - 1] = 1;
 }
@@ -68,7 +68,7 @@ pub fn offer_all(
     candidates: &[usize],
     steps: &[u8],
     tried: &mut [u8],
-    asked: &mut [u8],
+    asked: &mut [u16],
     wanted: &mut [u8],
     fresh: &mut [u8],
 ) -> usize
@@ -78,7 +78,7 @@ pub fn offer_all(
         × (length (now tried) ≡ headOf (now file) .candidates)
         × (length (now asked) ≡ headOf (now file) .candidates)
         × (length (now wanted) ≡ headOf (now file) .candidates)
-        × (length (now fresh) ≡ 32) ⌝ }
+        × (length (now fresh) ≡ 1000) ⌝ }
     ensures { λ r. ⌜ OffersMade (roundOf (now (file .entry))) (now (steps .entry))
         (now (tried .entry)) (now (asked .entry)) (now (wanted .entry))
         (now (tried .exit)) (now (asked .exit)) (now (wanted .exit)) (now (fresh .exit)) r ⌝ }

@@ -6,7 +6,6 @@
 use crate::choosing::choose_all;
 use crate::offering::offer_all;
 use crate::table::none_fresh;
-use round::clearing::clear;
 use round::clearing::zeros;
 use round::head::Head;
 ghost use mathlib.Core.Path.{_≡_};
@@ -23,7 +22,7 @@ fn sweep_all(
     candidates: &[usize],
     merits: &[usize],
     tried: &mut [u8],
-    asked: &mut [u8],
+    asked: &mut [u16],
     wanted: &mut [u8],
     steps: &mut [u8],
 ) -> usize
@@ -59,7 +58,7 @@ fn sweep_all(
 }
 
 // Whoever has no step has no holder.
-fn settle(steps: &[u8], holders: &mut [u8])
+fn settle(steps: &[u8], holders: &mut [u16])
     requires { ⌜ length (now holders) ≡ length (now steps) ⌝ }
     ensures { λ _. ⌜ now (holders .exit) ≡ settled (now (holders .entry)) (now (steps .entry)) ⌝ }
 {
@@ -70,24 +69,22 @@ fn settle(steps: &[u8], holders: &mut [u8])
     }
 }
 
-// The offers of the process of an accepted file: returns their number, at most that of the entries, and leaves the holder and the step of
-// each candidate, 0 and 0 for none.
+// The offers of the process of an accepted file, from tables of zeros: returns their number, at most that of the entries, and leaves the holder
+// and the step of each candidate, 0 and 0 for none.
 pub fn run_offers(
     file: &[u8],
     h: Head,
     candidates: &[usize],
     merits: &[usize],
-    holders: &mut [u8],
+    holders: &mut [u16],
     steps: &mut [u8],
 ) -> usize
     requires { ⌜ AtHand (now file) h (now candidates) (now merits) ⌝ }
-    requires { ⌜ (length (now holders) ≡ h .candidates) × (length (now steps) ≡ h .candidates) ⌝ }
+    requires { ⌜ (now holders ≡ replicate (h .candidates) 0) × (now steps ≡ replicate (h .candidates) 0) ⌝ }
     ensures { λ r. ⌜ (r ≡ offersMade (roundOf (now (file .entry))))
         × HeldIn (seats (roundOf (now (file .entry)))) (now (holders .exit)) (now (steps .exit)) ⌝ }
 {
     let n = h.candidates;
-    clear(holders, n);
-    clear(steps, n);
     let mut tried = zeros();
     let mut wanted = zeros();
     let count = sweep_all(

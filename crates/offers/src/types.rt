@@ -36,7 +36,7 @@ fn type_anew(
     candidates: &[usize],
     merits: &[usize],
     j: usize,
-    holders: &[u8],
+    holders: &[u16],
     wanted: &[u8],
     types: &mut [u8],
 )
@@ -71,7 +71,7 @@ pub fn note_types(
     h: Head,
     candidates: &[usize],
     merits: &[usize],
-    holders: &[u8],
+    holders: &[u16],
     steps: &[u8],
     types: &mut [u8],
 )

@@ -1,7 +1,9 @@
--- What the program prints for a round file, byte by byte (document 01, "Worked rounds"; document 02, Points 1 and 3).
+-- What the program prints for a round file, byte by byte (document 01, "Worked rounds"; document 02, Points 1, 3 and 6).
 use Prim.Native.Nat.{ℕ, _+_}
+use mathlib.Core.Bool.{cond}
 use mathlib.Core.List.{List, _++_}
-use lib.ListN.{getD}
+use lib.Dec.{leb}
+use lib.ListN.{length, getD}
 use Rattle.round.specs.Lists.{tabulate, joined}
 use Rattle.round.specs.Round.{Round}
 use Rattle.round.specs.Reading.{roundOf}
@@ -45,6 +47,12 @@ abbrev pub printedBy : Verdict → Round → List ℕ
 printedBy passes r = page r
 printedBy (refused number offset) r = refusedLine number offset
 
--- what is printed for a file
+-- what is printed for a file that the program reads
+unfoldable pub printedFor : List ℕ → List ℕ
+printedFor file = printedBy (verdict file) (roundOf file)
+
+-- what is printed for an input: the program alone refuses one above 65,536 bytes by 16, before question 1
 unfoldable pub printed : List ℕ → List ℕ
-printed file = printedBy (verdict file) (roundOf file)
+printed input =
+    let read = printedFor input in
+    cond (leb (length input) 65536) read (refusedLine 16 0)

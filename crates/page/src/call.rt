@@ -3,20 +3,21 @@ use crate::lines::put_refusal;
 use crate::reads::put_allotment;
 use allotment::Answer;
 use allotment::allot;
+use round::form::form_of;
 use round::head::head_in;
 ghost use mathlib.Core.Path.{_≡_};
 ghost use Prim.Native.Nat.{_≤_};
 ghost use lib.ListN.{length};
 ghost use Rattle.round.specs.Reading.{roundOf};
 ghost use Rattle.text.specs.Put.{Front};
-ghost use Rattle.page.specs.Page.{page as Page·page, printed};
+ghost use Rattle.page.specs.Page.{page as Page·page, printedFor, printed};
 ghost use Rattle.page.specs.Reads.{Answered};
 
 // The answer area of the largest round.
-fn answer_room() -> [u8; 1920]
-    ensures { λ r. ⌜ length r ≡ 1920 ⌝ }
+fn answer_room() -> [u8; 14560]
+    ensures { λ r. ⌜ length r ≡ 14560 ⌝ }
 {
-    [0; 1920]
+    [0; 14560]
 }
 
 // The work area of the largest round.
@@ -27,26 +28,27 @@ fn work_room() -> [u8; 4096]
 }
 
 // Room for the longest page.
-pub fn page_room() -> [u8; 8192]
-    ensures { λ r. ⌜ length r ≡ 8192 ⌝ }
+pub fn page_room() -> [u8; 57344]
+    ensures { λ r. ⌜ length r ≡ 57344 ⌝ }
 {
-    [0; 8192]
+    [0; 57344]
 }
 
 // The page of a round that was allotted.
 fn put_answered(page: &mut [u8], file: &[u8], offers: usize, answer: &[u8]) -> usize
     requires { ⌜ Answered (now file) offers (now answer) ⌝ }
-    requires { ⌜ 8192 ≤ length (now page) ⌝ }
+    requires { ⌜ 57344 ≤ length (now page) ⌝ }
     ensures { λ r. ⌜ Front (now (page .entry)) (Page·page (roundOf (now (file .entry)))) (now (page .exit)) r ⌝ }
 {
-    let h = head_in(&file[4..12]);
-    put_allotment(page, offers, h.candidates, h.institutes, answer)
+    let form = form_of(file);
+    let h = head_in(&file[4..12], form);
+    put_allotment(page, form, offers, h.candidates, h.institutes, answer)
 }
 
-// The page of a round file, or the line of its refusal, at the front of an area of 8,192 bytes.
-pub fn put_page(page: &mut [u8], file: &[u8]) -> usize
-    requires { ⌜ 8192 ≤ length (now page) ⌝ }
-    ensures { λ r. ⌜ Front (now (page .entry)) (printed (now (file .entry))) (now (page .exit)) r ⌝ }
+// The page of a round file, or the line of its refusal.
+fn put_read(page: &mut [u8], file: &[u8]) -> usize
+    requires { ⌜ 57344 ≤ length (now page) ⌝ }
+    ensures { λ r. ⌜ Front (now (page .entry)) (printedFor (now (file .entry))) (now (page .exit)) r ⌝ }
 {
     let mut answer = answer_room();
     let mut work = work_room();
@@ -55,4 +57,15 @@ pub fn put_page(page: &mut [u8], file: &[u8]) -> usize
         Answer::Allotted(offers) => put_answered(page, file, offers, &answer),
         Answer::Refused { number, offset } => put_refusal(page, 0, number, offset),
     }
+}
+
+// What is printed for an input, at the front of an area of 57,344 bytes.
+pub fn put_page(page: &mut [u8], input: &[u8]) -> usize
+    requires { ⌜ 57344 ≤ length (now page) ⌝ }
+    ensures { λ r. ⌜ Front (now (page .entry)) (printed (now (input .entry))) (now (page .exit)) r ⌝ }
+{
+    if 65536 < input.len() {
+        return put_refusal(page, 0, 16, 0);
+    }
+    put_read(page, input)
 }

@@ -2,22 +2,35 @@
 use crate::lines::put_closing;
 use crate::lines::put_offers;
 use crate::lines::put_seat;
+use offers::list::institute_at;
+use offers::list::step_at;
+use round::form::Form;
+use round::form::seats_size;
 use round::word::wide;
 ghost use Prim.Native.Nat.{_+_, _*_, _≤_, _<_};
 ghost use lib.ListN.{length, getD};
+ghost use Rattle.round.specs.Form.{seatWidth};
 ghost use Rattle.offers.specs.Areas.{seatIn};
+ghost use Rattle.allotment.specs.Areas.{sizeFor};
 ghost use Rattle.text.specs.Put.{Fits, Put};
 ghost use Rattle.page.specs.Page.{seatLine};
 ghost use Rattle.page.specs.Reads.{seatLines, closingLines, pageIn};
 
 // The seat of candidate i, from 0, with the type, where the types stand from a byte on.
-fn put_seat_in(page: &mut [u8], at: usize, answer: &[u8], types: usize, i: usize) -> usize
-    requires { ⌜ (2 * i + 2 ≤ length (now answer)) × (types + i < length (now answer)) ⌝ }
-    requires { ⌜ Fits (now page) at (seatLine (i + 1) (seatIn (now answer) i) (getD (now answer) (types + i) 0)) ⌝ }
-    ensures { λ r. ⌜ Put (now (page .entry)) at (seatLine (i + 1) (seatIn (now (answer .entry)) i) (getD (now (answer .entry)) (types + i) 0)) (now (page .exit)) r ⌝ }
+fn put_seat_in(
+    page: &mut [u8],
+    at: usize,
+    form: Form,
+    answer: &[u8],
+    types: usize,
+    i: usize,
+) -> usize
+    requires { ⌜ (i < 512) × (seatWidth form * i + seatWidth form ≤ length (now answer)) × (types + i < length (now answer)) ⌝ }
+    requires { ⌜ Fits (now page) at (seatLine (i + 1) (seatIn form (now answer) i) (getD (now answer) (types + i) 0)) ⌝ }
+    ensures { λ r. ⌜ Put (now (page .entry)) at (seatLine (i + 1) (seatIn form (now (answer .entry)) i) (getD (now (answer .entry)) (types + i) 0)) (now (page .exit)) r ⌝ }
 {
-    let institute = wide(answer[2 * i]);
-    let step = wide(answer[2 * i + 1]);
+    let institute = institute_at(answer, form, i);
+    let step = step_at(answer, form, i);
     let kind = wide(answer[types + i]);
     put_seat(page, at, i + 1, institute, step, kind)
 }
@@ -26,18 +39,19 @@ fn put_seat_in(page: &mut [u8], at: usize, answer: &[u8], types: usize, i: usize
 fn put_seats(
     page: &mut [u8],
     at: usize,
+    form: Form,
     candidates: usize,
     institutes: usize,
     answer: &[u8],
 ) -> usize
-    requires { ⌜ 3 * candidates + 12 * institutes ≤ length (now answer) ⌝ }
-    requires { ⌜ Fits (now page) at (seatLines (now answer) candidates institutes) ⌝ }
-    ensures { λ r. ⌜ Put (now (page .entry)) at (seatLines (now (answer .entry)) candidates institutes) (now (page .exit)) r ⌝ }
+    requires { ⌜ (candidates ≤ 512) × (institutes ≤ 1000) × (sizeFor form candidates institutes ≤ length (now answer)) ⌝ }
+    requires { ⌜ Fits (now page) at (seatLines form (now answer) candidates institutes) ⌝ }
+    ensures { λ r. ⌜ Put (now (page .entry)) at (seatLines form (now (answer .entry)) candidates institutes) (now (page .exit)) r ⌝ }
 {
-    let types = 2 * candidates + 12 * institutes;
+    let types = seats_size(form, candidates) + 12 * institutes;
     let mut behind = at;
     for i in 0..candidates {
-        behind = put_seat_in(page, behind, answer, types, i);
+        behind = put_seat_in(page, behind, form, answer, types, i);
     }
     behind
 }
@@ -46,17 +60,19 @@ fn put_seats(
 fn put_closings(
     page: &mut [u8],
     at: usize,
+    form: Form,
     candidates: usize,
     institutes: usize,
     answer: &[u8],
 ) -> usize
-    requires { ⌜ 2 * candidates + 12 * institutes ≤ length (now answer) ⌝ }
-    requires { ⌜ Fits (now page) at (closingLines (now answer) candidates institutes) ⌝ }
-    ensures { λ r. ⌜ Put (now (page .entry)) at (closingLines (now (answer .entry)) candidates institutes) (now (page .exit)) r ⌝ }
+    requires { ⌜ (candidates ≤ 512) × (institutes ≤ 1000) × (sizeFor form candidates institutes ≤ length (now answer)) ⌝ }
+    requires { ⌜ Fits (now page) at (closingLines form (now answer) candidates institutes) ⌝ }
+    ensures { λ r. ⌜ Put (now (page .entry)) at (closingLines form (now (answer .entry)) candidates institutes) (now (page .exit)) r ⌝ }
 {
+    let closings = seats_size(form, candidates);
     let mut behind = at;
     for j in 0..institutes {
-        behind = put_closing(page, behind, j + 1, answer, 2 * candidates + 12 * j);
+        behind = put_closing(page, behind, j + 1, answer, closings + 12 * j);
     }
     behind
 }
@@ -64,16 +80,17 @@ fn put_closings(
 // The offers, the seats with the types, the closing places, from the front.
 pub fn put_allotment(
     page: &mut [u8],
+    form: Form,
     offers: usize,
     candidates: usize,
     institutes: usize,
     answer: &[u8],
 ) -> usize
-    requires { ⌜ 3 * candidates + 12 * institutes ≤ length (now answer) ⌝ }
-    requires { ⌜ Fits (now page) 0 (pageIn offers candidates institutes (now answer)) ⌝ }
-    ensures { λ r. ⌜ Put (now (page .entry)) 0 (pageIn offers candidates institutes (now (answer .entry))) (now (page .exit)) r ⌝ }
+    requires { ⌜ (candidates ≤ 512) × (institutes ≤ 1000) × (sizeFor form candidates institutes ≤ length (now answer)) ⌝ }
+    requires { ⌜ Fits (now page) 0 (pageIn form offers candidates institutes (now answer)) ⌝ }
+    ensures { λ r. ⌜ Put (now (page .entry)) 0 (pageIn form offers candidates institutes (now (answer .entry))) (now (page .exit)) r ⌝ }
 {
     let counted = put_offers(page, 0, offers);
-    let seated = put_seats(page, counted, candidates, institutes, answer);
-    put_closings(page, seated, candidates, institutes, answer)
+    let seated = put_seats(page, counted, form, candidates, institutes, answer);
+    put_closings(page, seated, form, candidates, institutes, answer)
 }

@@ -3,8 +3,8 @@
 use choice::choose;
 use round::reader::Reading;
 use round::reader::candidate_table;
-use round::reader::institute_table;
 use round::reader::read_round;
+use round::reader::wide_table;
 use round::rules::rule_table;
 use round::rules::rules_of;
 ghost use mathlib.Core.Path.{_≡_};
@@ -17,7 +17,7 @@ pub extern "C" fn tazbilk_verdict(file: &[u8], result: &mut [u64; 2])
     ensures { λ _. ⌜ now (result .exit) ≡ verdictIn (now (result .entry)) (verdict (now (file .entry))) ⌝ }
 {
     let mut candidates = candidate_table();
-    let mut merits = institute_table();
+    let mut merits = wide_table();
     let got = read_round(file, &mut candidates, &mut merits);
     match got {
         Reading::Read(_) => {

@@ -1,11 +1,14 @@
--- What a review answers and what it leaves in the work area (document 02, Point 5), for every input.
+-- What a review answers and what it leaves in the work area (document 02, Points 5 and 6), for every input.
 use Prim.Native.Nat.{ℕ, _*_}
 use mathlib.Core.Path.{_≡_}
 use mathlib.Core.Bool.{cond}
 use mathlib.Core.List.{List, _++_}
 use lib.Dec.{eqb, leb}
 use lib.ListN.{length, drop, replicate}
+use Rattle.round.specs.declared.form.Form.{Form}
+use Rattle.round.specs.Form.{seatWidth}
 use Rattle.round.specs.Round.{Round}
+use Rattle.round.specs.Records.{formOf}
 use Rattle.round.specs.Reading.{roundOf}
 use Rattle.round.specs.Refusal as Refusal
 use Rattle.round.specs.Refusal.{Verdict, verdict}
@@ -27,27 +30,31 @@ outcomeOf (WrongSeat candidate) = found (wrongSeat candidate)
 outcomeOf (BetterEntry candidate entry) = found (betterEntry candidate entry)
 outcomeOf (Refused number offset) = refused number offset
 
--- the bytes of a list under review
-abbrev pub listSize : Round → ℕ
-listSize r = 2 * candidateCount r
+-- the bytes of a list under review: a seat for each candidate
+abbrev pub listSize : Form → Round → ℕ
+listSize form r = seatWidth form * candidateCount r
 
 -- the list of seats that the bytes under review stand for
-abbrev pub listOf : Round → List ℕ → List Seat
-listOf r list = seatsIn (candidateCount r) list
+abbrev pub listOf : Form → Round → List ℕ → List Seat
+listOf form r list = seatsIn form (candidateCount r) list
 
--- 15: the list has two bytes for each candidate; then 14: the work area is large enough
-abbrev pub outcomeOn : Round → List ℕ → ℕ → Outcome
-outcomeOn r list workLength =
-    let reviewed = found (finding r (listOf r list)) in
-    cond (eqb (length list) (listSize r)) (cond (leb (workSize r) workLength) reviewed (refused 14 0)) (refused 15 0)
+-- 15: the list has a seat's bytes for each candidate; then 14: the work area is large enough
+abbrev pub outcomeOn : Form → Round → List ℕ → ℕ → Outcome
+outcomeOn form r list workLength =
+    let reviewed = found (finding r (listOf form r list)) in
+    cond (eqb (length list) (listSize form r)) (cond (leb (workSize r) workLength) reviewed (refused 14 0)) (refused 15 0)
 
-abbrev pub outcomeBy : Verdict → Round → List ℕ → ℕ → Outcome
-outcomeBy Refusal.passes r list workLength = outcomeOn r list workLength
-outcomeBy (Refusal.refused number offset) r list workLength = refused number offset
+abbrev pub outcomeBy : Verdict → Form → Round → List ℕ → ℕ → Outcome
+outcomeBy Refusal.passes form r list workLength = outcomeOn form r list workLength
+outcomeBy (Refusal.refused number offset) form r list workLength = refused number offset
+
+-- the list under review for the round of a file
+abbrev pub listFor : List ℕ → List ℕ → List Seat
+listFor file list = listOf (formOf file) (roundOf file) list
 
 -- the outcome for a file, a list and the length of the work area
 unfoldable pub outcome : List ℕ → List ℕ → ℕ → Outcome
-outcome file list workLength = outcomeBy (verdict file) (roundOf file) list workLength
+outcome file list workLength = outcomeBy (verdict file) (formOf file) (roundOf file) list workLength
 
 abbrev pub workBy : Outcome → ℕ → List ℕ → List ℕ
 workBy (found finding) size work = replicate size 0 ++ drop size work

@@ -1,6 +1,6 @@
 -- What the review's tables hold: the listed seats that are in their rows, as offers (for each candidate the number of an institute, 0 for none, and
 -- a set of categories, bit c for code c), and the steps that the institutes give.
-use Prim.Native.Nat.{ℕ, suc, _+_, _*_, _-_, _^_, _≤_, _<_}
+use Prim.Native.Nat.{ℕ, suc, _*_, _-_, _^_, _≤_, _<_}
 use mathlib.Core.Path.{_≡_}
 use mathlib.Core.Bool.{Bool, true, false, not, _&&_}
 use mathlib.Core.List.{List}
@@ -8,22 +8,25 @@ use lib.Bits.{bitOr}
 use lib.Dec.{eqb}
 use lib.ListN.{length, getD, set}
 use Rattle.round.specs.declared.entry.Category.{Category}
+use Rattle.round.specs.declared.form.Form.{Form}
 use Rattle.round.specs.declared.head.Head.{Head}
 use Rattle.round.specs.Category.{codeOf, categoryOf}
+use Rattle.round.specs.Form.{seatWidth}
 use Rattle.round.specs.Round.{Round}
 use Rattle.round.specs.Reading.{roundOf}
 use Rattle.offers.specs.Offers.{OfferSet, stepFor}
-use Rattle.offers.specs.Process.{Seat, candidateCount}
+use Rattle.offers.specs.Process.{Seat, isNone, candidateCount}
+use Rattle.offers.specs.Areas.{seatIn}
 use Rattle.offers.specs.Held.{AtHand}
 use Rattle.offers.specs.Stable.{seatOn}
 use Rattle.offers.specs.Sweeps.{offerTo, offersBy}
 use Rattle.review.specs.Finding.{inRow}
-use Rattle.review.specs.Outcome.{listOf}
+use Rattle.review.specs.Outcome.{listFor}
 
--- an accepted file, its head and the starts of its records, and a list of two bytes for each candidate
+-- an accepted file, its head and the starts of its records, and a list with a seat's bytes for each candidate
 pub record UnderReview (file : List ℕ) (h : Head) (candidates merits list : List ℕ) : Type 0 where
   pub hand : AtHand file h candidates merits
-  pub size : length list ≡ 2 * h .candidates
+  pub size : length list ≡ seatWidth (h .form) * h .candidates
 
 -- of the first k candidates two tables have the seats that are in their rows, and of nobody else any; step 6 has number 5 in `wanted-at`, which is
 -- open
@@ -41,10 +44,10 @@ pub record StepsGiven (r : Round) (asked wanted steps : List ℕ) : Type 0 where
   pub given : (i j : ℕ) → i < candidateCount r → getD asked i 0 ≡ suc j → getD steps i 0 ≡ stepFor r j (offersBy (offerTo (suc j) asked wanted)) i
 
 -- by the bytes of the list and these tables, candidate i's seat is wrong: it is some, and has no offer or another step
-unfoldable pub wrongBy : List ℕ → List ℕ → List ℕ → ℕ → Bool
-wrongBy list asked steps i =
-    not (eqb (getD list (2 * i) 0) 0 && eqb (getD list (2 * i + 1) 0) 0)
-    && not (not (eqb (getD asked i 0) 0) && eqb (getD steps i 0) (getD list (2 * i + 1) 0))
+unfoldable pub wrongBy : Form → List ℕ → List ℕ → List ℕ → ℕ → Bool
+wrongBy form list asked steps i =
+    not (isNone (seatIn form list i))
+    && not (not (eqb (getD asked i 0) 0) && eqb (getD steps i 0) (seatIn form list i .step))
 
 -- the tables with one entry more, that of candidate i with a category at the institute with a number: nobody else's offer is changed, and no
 -- other institute than this one chooses from them
@@ -60,4 +63,4 @@ offersWith j i c asked wanted = offersBy (offerTo (suc j) (askedWith (suc j) i a
 
 -- the tables have every listed seat that is in its row
 abbrev pub AllRead : List ℕ → List ℕ → List ℕ → List ℕ → Type 0
-AllRead file list asked wanted = SeatsRead (roundOf file) (listOf (roundOf file) list) (candidateCount (roundOf file)) asked wanted
+AllRead file list asked wanted = SeatsRead (roundOf file) (listFor file list) (candidateCount (roundOf file)) asked wanted

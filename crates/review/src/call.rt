@@ -4,19 +4,28 @@ use crate::entries::find_entry;
 use crate::seats::read_seats;
 use crate::steps::first_wrong;
 use crate::steps::give_steps;
+use offers::table::nobody;
 use round::clearing::clear;
 use round::clearing::zeros;
+use round::form::Form;
+use round::form::form_of;
+use round::form::seats_size;
 use round::head::Head;
 use round::reader::Reading;
 use round::reader::candidate_table;
-use round::reader::institute_table;
+use round::reader::narrow_table;
 use round::reader::read_round;
+use round::reader::wide_table;
 ghost use mathlib.Core.Path.{_≡_};
+ghost use Prim.Native.Nat.{_≤_};
 ghost use lib.ListN.{length, replicate};
+ghost use Rattle.round.specs.declared.form.Form.the-variants.{Narrow, Wide};
+ghost use Rattle.round.specs.Form.{institutesMost};
+ghost use Rattle.round.specs.Records.{formOf};
 ghost use Rattle.round.specs.Reading.{roundOf};
 ghost use Rattle.offers.specs.Held.{AtHand};
 ghost use Rattle.review.specs.Finding.{finding};
-ghost use Rattle.review.specs.Outcome.{found, outcomeOf, listOf};
+ghost use Rattle.review.specs.Outcome.{found, outcomeOf, listFor};
 ghost use Rattle.review.specs.Promise.{Promise};
 ghost use Rattle.review.specs.Handing.{refusedBy};
 ghost use Rattle.review.specs.Tables.{UnderReview};
@@ -41,17 +50,18 @@ fn find(
     candidates: &[usize],
     merits: &[usize],
     list: &[u8],
-    asked: &mut [u8],
+    asked: &mut [u16],
     wanted: &mut [u8],
     steps: &mut [u8],
 ) -> Judgement
     requires { ⌜ UnderReview (now file) h (now candidates) (now merits) (now list) ⌝ }
     requires { ⌜ (now asked ≡ replicate (h .candidates) 0) × (length (now wanted) ≡ h .candidates) × (now steps ≡ replicate (h .candidates) 0) ⌝ }
-    ensures { λ r. ⌜ outcomeOf r ≡ found (finding (roundOf (now (file .entry))) (listOf (roundOf (now (file .entry))) (now (list .entry)))) ⌝ }
+    ensures { λ r. ⌜ outcomeOf r ≡ found (finding (roundOf (now (file .entry))) (listFor (now (file .entry)) (now (list .entry)))) ⌝ }
 {
     read_seats(file, h, candidates, merits, list, asked, wanted);
     give_steps(file, h, candidates, merits, asked, wanted, steps);
-    let i = first_wrong(list, asked, steps);
+    let form = h.form;
+    let i = first_wrong(list, form, asked, steps);
     if i < h.candidates {
         return Judgement::WrongSeat { candidate: i + 1 };
     }
@@ -71,7 +81,8 @@ fn review_round(
     ensures { λ r. ⌜ Promise (now (file .entry)) (now (list .entry)) (now (work .entry)) r (now (work .exit)) ⌝ }
 {
     let n = h.candidates;
-    if list.len() != 2 * n {
+    let form = h.form;
+    if list.len() != seats_size(form, n) {
         return Judgement::Refused {
             number: 15,
             offset: 0,
@@ -83,7 +94,7 @@ fn review_round(
             offset: 0,
         };
     }
-    let mut asked = zeros();
+    let mut asked = nobody();
     let mut wanted = zeros();
     let mut steps = zeros();
     let said = find(
@@ -100,15 +111,44 @@ fn review_round(
     said
 }
 
+// The review of a list for a round file, with a table that has room for its merit lists.
+fn review_with(file: &[u8], merits: &mut [usize], list: &[u8], work: &mut [u8]) -> Judgement
+    requires { ⌜ institutesMost (formOf (now file)) ≤ length (now merits) ⌝ }
+    ensures { λ r. ⌜ Promise (now (file .entry)) (now (list .entry)) (now (work .entry)) r (now (work .exit)) ⌝ }
+{
+    let mut candidates = candidate_table();
+    let got = read_round(file, &mut candidates, merits);
+    let Reading::Read(h) = got else {
+        return handed(got);
+    };
+    review_round(file, h, &candidates, merits, list, work)
+}
+
+// The review of a list for a narrow file.
+fn review_narrow(file: &[u8], list: &[u8], work: &mut [u8]) -> Judgement
+    requires { ⌜ formOf (now file) ≡ Narrow ⌝ }
+    ensures { λ r. ⌜ Promise (now (file .entry)) (now (list .entry)) (now (work .entry)) r (now (work .exit)) ⌝ }
+{
+    let mut merits = narrow_table();
+    review_with(file, &mut merits, list, work)
+}
+
+// The review of a list for a wide file.
+fn review_wide(file: &[u8], list: &[u8], work: &mut [u8]) -> Judgement
+    requires { ⌜ formOf (now file) ≡ Wide ⌝ }
+    ensures { λ r. ⌜ Promise (now (file .entry)) (now (list .entry)) (now (work .entry)) r (now (work .exit)) ⌝ }
+{
+    let mut merits = wide_table();
+    review_with(file, &mut merits, list, work)
+}
+
 // The review of a list of seats for a round file: where nothing is refused the list passes if it is stable, else what is found first is named.
 pub fn review(file: &[u8], list: &[u8], work: &mut [u8]) -> Judgement
     ensures { λ r. ⌜ Promise (now (file .entry)) (now (list .entry)) (now (work .entry)) r (now (work .exit)) ⌝ }
 {
-    let mut candidates = candidate_table();
-    let mut merits = institute_table();
-    let got = read_round(file, &mut candidates, &mut merits);
-    let Reading::Read(h) = got else {
-        return handed(got);
-    };
-    review_round(file, h, &candidates, &merits, list, work)
+    let form = form_of(file);
+    match form {
+        Form::Narrow => review_narrow(file, list, work),
+        Form::Wide => review_wide(file, list, work),
+    }
 }

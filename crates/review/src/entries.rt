@@ -23,21 +23,21 @@ ghost use Rattle.offers.specs.Rows.{rowAt, sameCategory};
 ghost use Rattle.offers.specs.Sweeps.{offerTo, offersBy};
 ghost use Rattle.offers.specs.Held.{AtHand};
 ghost use Rattle.review.specs.Finding.{wouldTake, entryFinding};
-ghost use Rattle.review.specs.Outcome.{found, outcomeOf, listOf};
+ghost use Rattle.review.specs.Outcome.{found, outcomeOf, listFor};
 ghost use Rattle.review.specs.Tables.{UnderReview, AllRead, askedWith, wantedWith, offersWith};
 
 // Adds candidate i's entry of a category at the institute with a number.
-fn add_entry(asked: &mut [u8], wanted: &mut [u8], i: usize, number: usize, category: Category)
-    requires { ⌜ (i < length (now asked)) × (length (now wanted) ≡ length (now asked)) × (number < 256) ⌝ }
+fn add_entry(asked: &mut [u16], wanted: &mut [u8], i: usize, number: usize, category: Category)
+    requires { ⌜ (i < length (now asked)) × (length (now wanted) ≡ length (now asked)) × (number < 65536) ⌝ }
     ensures { λ _. ⌜ (now (asked .exit) ≡ askedWith number i (now (asked .entry)))
         × (now (wanted .exit) ≡ wantedWith number i category (now (asked .entry)) (now (wanted .entry))) ⌝ }
 {
     wanted[i] = offer_to(asked, wanted, number, i) | only(category);
-    asked[i] = number as u8;
+    asked[i] = number as u16;
 }
 
 // Puts back what stood in the tables for candidate i.
-fn put_back(asked: &mut [u8], wanted: &mut [u8], i: usize, number: u8, categories: u8)
+fn put_back(asked: &mut [u16], wanted: &mut [u8], i: usize, number: u16, categories: u8)
     requires { ⌜ (i < length (now asked)) × (length (now wanted) ≡ length (now asked)) ⌝ }
     ensures { λ _. ⌜ (now (asked .exit) ≡ set (now (asked .entry)) i number) × (now (wanted .exit) ≡ set (now (wanted .entry)) i categories) ⌝ }
 {
@@ -51,7 +51,7 @@ fn step_anew(
     h: Head,
     candidates: &[usize],
     merits: &[usize],
-    asked: &[u8],
+    asked: &[u16],
     wanted: &[u8],
     steps: &mut [u8],
     i: usize,
@@ -73,7 +73,7 @@ fn step_with(
     h: Head,
     candidates: &[usize],
     merits: &[usize],
-    asked: &mut [u8],
+    asked: &mut [u16],
     wanted: &mut [u8],
     steps: &mut [u8],
     i: usize,
@@ -111,7 +111,7 @@ fn would_take(
     candidates: &[usize],
     merits: &[usize],
     list: &[u8],
-    asked: &mut [u8],
+    asked: &mut [u16],
     wanted: &mut [u8],
     steps: &mut [u8],
     i: usize,
@@ -120,7 +120,7 @@ fn would_take(
     requires { ⌜ UnderReview (now file) h (now candidates) (now merits) (now list) ⌝ }
     requires { ⌜ AllRead (now file) (now list) (now asked) (now wanted) ⌝ }
     requires { ⌜ (i < h .candidates) × (k < length (rowAt (roundOf (now file)) i)) × (length (now steps) ≡ h .candidates) ⌝ }
-    ensures { λ r. ⌜ (r ≡ wouldTake (roundOf (now (file .entry))) (listOf (roundOf (now (file .entry))) (now (list .entry))) i
+    ensures { λ r. ⌜ (r ≡ wouldTake (roundOf (now (file .entry))) (listFor (now (file .entry)) (now (list .entry))) i
         (entryAt (candidateAt (roundOf (now (file .entry))) i) k))
         × (now (asked .exit) ≡ now (asked .entry)) × (now (wanted .exit) ≡ now (wanted .entry)) ⌝ }
 {
@@ -149,7 +149,7 @@ fn best_entry(
     candidates: &[usize],
     merits: &[usize],
     list: &[u8],
-    asked: &mut [u8],
+    asked: &mut [u16],
     wanted: &mut [u8],
     steps: &mut [u8],
     i: usize,
@@ -158,7 +158,7 @@ fn best_entry(
     requires { ⌜ UnderReview (now file) h (now candidates) (now merits) (now list) ⌝ }
     requires { ⌜ AllRead (now file) (now list) (now asked) (now wanted) ⌝ }
     requires { ⌜ (i < h .candidates) × (above ≤ length (rowAt (roundOf (now file)) i)) × (length (now steps) ≡ h .candidates) ⌝ }
-    ensures { λ r. ⌜ (r ≡ first above (λ k. wouldTake (roundOf (now (file .entry))) (listOf (roundOf (now (file .entry))) (now (list .entry))) i
+    ensures { λ r. ⌜ (r ≡ first above (λ k. wouldTake (roundOf (now (file .entry))) (listFor (now (file .entry)) (now (list .entry))) i
         (entryAt (candidateAt (roundOf (now (file .entry))) i) k)))
         × (now (asked .exit) ≡ now (asked .entry)) × (now (wanted .exit) ≡ now (wanted .entry)) ⌝ }
 {
@@ -188,14 +188,14 @@ pub fn find_entry(
     candidates: &[usize],
     merits: &[usize],
     list: &[u8],
-    asked: &mut [u8],
+    asked: &mut [u16],
     wanted: &mut [u8],
     steps: &mut [u8],
 ) -> Judgement
     requires { ⌜ UnderReview (now file) h (now candidates) (now merits) (now list) ⌝ }
     requires { ⌜ AllRead (now file) (now list) (now asked) (now wanted) ⌝ }
     requires { ⌜ length (now steps) ≡ h .candidates ⌝ }
-    ensures { λ r. ⌜ outcomeOf r ≡ found (entryFinding (roundOf (now (file .entry))) (listOf (roundOf (now (file .entry))) (now (list .entry)))) ⌝ }
+    ensures { λ r. ⌜ outcomeOf r ≡ found (entryFinding (roundOf (now (file .entry))) (listFor (now (file .entry)) (now (list .entry)))) ⌝ }
 {
     for i in 0..h.candidates {
         let above = entries_above(file, h, candidates, merits, list, i);

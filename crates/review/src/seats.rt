@@ -1,4 +1,6 @@
 // The listed seats: where each stands in its holder's row, and those that are in their rows, as offers.
+use offers::list::institute_at;
+use offers::list::step_at;
 use offers::offering::only;
 use round::access::row_entry;
 use round::access::row_length;
@@ -6,7 +8,6 @@ use round::entry::Category;
 use round::entry::code_of;
 use round::entry::step_category;
 use round::head::Head;
-use round::word::wide;
 use round::word::within;
 ghost use mathlib.Core.Path.{_≡_};
 ghost use Prim.Native.Nat.{_<_};
@@ -16,7 +17,7 @@ ghost use Rattle.round.specs.Access.{CandidateKnown};
 ghost use Rattle.round.specs.Places.{candidateAt, entryAt};
 ghost use Rattle.offers.specs.Rows.{rowAt, sameEntry, rankIn};
 ghost use Rattle.review.specs.Finding.{above, inRow};
-ghost use Rattle.review.specs.Outcome.{listOf};
+ghost use Rattle.review.specs.Outcome.{listFor};
 ghost use Rattle.review.specs.Tables.{UnderReview, AllRead};
 
 // Whether the entry at place k of candidate i's row is the one of an institute with a category.
@@ -63,12 +64,13 @@ pub fn entries_above(
 ) -> usize
     requires { ⌜ UnderReview (now file) h (now candidates) (now merits) (now list) ⌝ }
     requires { ⌜ i < h .candidates ⌝ }
-    ensures { λ r. ⌜ r ≡ above (roundOf (now (file .entry))) (listOf (roundOf (now (file .entry))) (now (list .entry))) i ⌝ }
+    ensures { λ r. ⌜ r ≡ above (roundOf (now (file .entry))) (listFor (now (file .entry)) (now (list .entry))) i ⌝ }
 {
-    let institute = wide(list[2 * i]);
-    let step = list[2 * i + 1];
-    if within(1, h.institutes, institute) && within(1, 6, wide(step)) {
-        rank_in(file, candidates, i, institute, step_category(step))
+    let form = h.form;
+    let institute = institute_at(list, form, i);
+    let step = step_at(list, form, i);
+    if within(1, h.institutes, institute) && within(1, 6, step) {
+        rank_in(file, candidates, i, institute, step_category(step as u8))
     } else {
         row_length(file, candidates, i)
     }
@@ -85,7 +87,7 @@ fn in_row(
 ) -> bool
     requires { ⌜ UnderReview (now file) h (now candidates) (now merits) (now list) ⌝ }
     requires { ⌜ i < h .candidates ⌝ }
-    ensures { λ r. ⌜ r ≡ inRow (roundOf (now (file .entry))) (listOf (roundOf (now (file .entry))) (now (list .entry))) i ⌝ }
+    ensures { λ r. ⌜ r ≡ inRow (roundOf (now (file .entry))) (listFor (now (file .entry)) (now (list .entry))) i ⌝ }
 {
     entries_above(file, h, candidates, merits, list, i) < row_length(file, candidates, i)
 }
@@ -97,17 +99,18 @@ pub fn read_seats(
     candidates: &[usize],
     merits: &[usize],
     list: &[u8],
-    asked: &mut [u8],
+    asked: &mut [u16],
     wanted: &mut [u8],
 )
     requires { ⌜ UnderReview (now file) h (now candidates) (now merits) (now list) ⌝ }
     requires { ⌜ (now asked ≡ replicate (h .candidates) 0) × (length (now wanted) ≡ h .candidates) ⌝ }
     ensures { λ _. ⌜ AllRead (now (file .entry)) (now (list .entry)) (now (asked .exit)) (now (wanted .exit)) ⌝ }
 {
+    let form = h.form;
     for i in 0..asked.len() {
         if in_row(file, h, candidates, merits, list, i) {
-            asked[i] = list[2 * i];
-            wanted[i] = only(step_category(list[2 * i + 1]));
+            asked[i] = institute_at(list, form, i) as u16;
+            wanted[i] = only(step_category(step_at(list, form, i) as u8));
         }
     }
 }

@@ -1,19 +1,24 @@
 // The steps that the institutes give when they choose from the listed seats, and the first seat that is wrong.
 use offers::choosing::choose_all;
+use offers::list::institute_at;
+use offers::list::step_at;
+use round::form::Form;
 use round::head::Head;
+use round::word::wide;
 ghost use mathlib.Core.Path.{_≡_};
-ghost use Prim.Native.Nat.{_*_, _<_};
+ghost use Prim.Native.Nat.{_*_, _≤_, _<_};
 ghost use lib.ListN.{length, replicate};
+ghost use Rattle.round.specs.Form.{seatWidth};
 ghost use Rattle.round.specs.Lists.{first};
 ghost use Rattle.round.specs.Reading.{roundOf};
 ghost use Rattle.offers.specs.Held.{AtHand};
 ghost use Rattle.review.specs.Tables.{StepsGiven, wrongBy};
 
 // A mark for every institute.
-fn every_institute() -> [u8; 32]
-    ensures { λ r. ⌜ r ≡ replicate 32 1 ⌝ }
+fn every_institute() -> [u8; 1000]
+    ensures { λ r. ⌜ r ≡ replicate 1000 1 ⌝ }
 {
-    [1; 32]
+    [1; 1000]
 }
 
 // Every institute chooses from the offers to it.
@@ -22,7 +27,7 @@ pub fn give_steps(
     h: Head,
     candidates: &[usize],
     merits: &[usize],
-    asked: &[u8],
+    asked: &[u16],
     wanted: &[u8],
     steps: &mut [u8],
 )
@@ -44,25 +49,27 @@ pub fn give_steps(
 }
 
 // Whether candidate i's seat is wrong, by the offers and the steps given.
-fn is_wrong(list: &[u8], asked: &[u8], steps: &[u8], i: usize) -> bool
-    requires { ⌜ (i < length (now asked)) × (length (now steps) ≡ length (now asked)) × (length (now list) ≡ 2 * length (now asked)) ⌝ }
-    ensures { λ r. ⌜ r ≡ wrongBy (now (list .entry)) (now (asked .entry)) (now (steps .entry)) i ⌝ }
+fn is_wrong(list: &[u8], form: Form, asked: &[u16], steps: &[u8], i: usize) -> bool
+    requires { ⌜ (i < length (now asked)) × (length (now steps) ≡ length (now asked)) × (length (now asked) ≤ 512) ⌝ }
+    requires { ⌜ length (now list) ≡ seatWidth form * length (now asked) ⌝ }
+    ensures { λ r. ⌜ r ≡ wrongBy form (now (list .entry)) (now (asked .entry)) (now (steps .entry)) i ⌝ }
 {
-    let institute = list[2 * i];
-    let step = list[2 * i + 1];
+    let institute = institute_at(list, form, i);
+    let step = step_at(list, form, i);
     if institute == 0 && step == 0 {
         return false;
     }
-    asked[i] == 0 || steps[i] != step
+    asked[i] == 0 || wide(steps[i]) != step
 }
 
 // The first candidate whose seat is wrong, from 0; the number of candidates where none is.
-pub fn first_wrong(list: &[u8], asked: &[u8], steps: &[u8]) -> usize
-    requires { ⌜ (length (now steps) ≡ length (now asked)) × (length (now list) ≡ 2 * length (now asked)) ⌝ }
-    ensures { λ r. ⌜ r ≡ first (length (now (asked .entry))) (wrongBy (now (list .entry)) (now (asked .entry)) (now (steps .entry))) ⌝ }
+pub fn first_wrong(list: &[u8], form: Form, asked: &[u16], steps: &[u8]) -> usize
+    requires { ⌜ (length (now steps) ≡ length (now asked)) × (length (now asked) ≤ 512) ⌝ }
+    requires { ⌜ length (now list) ≡ seatWidth form * length (now asked) ⌝ }
+    ensures { λ r. ⌜ r ≡ first (length (now (asked .entry))) (wrongBy form (now (list .entry)) (now (asked .entry)) (now (steps .entry))) ⌝ }
 {
     for i in 0..asked.len() {
-        if is_wrong(list, asked, steps, i) {
+        if is_wrong(list, form, asked, steps, i) {
             return i;
         }
     }

@@ -1,7 +1,8 @@
 // The two forms of a round file: narrow, with entries of two bytes, and wide, with entries of three.
 use crate::word::word;
 ghost use mathlib.Core.Path.{_≡_};
-ghost use Rattle.round.specs.Form.{institutesMost, kindDue, entryWidth};
+ghost use Prim.Native.Nat.{_*_, _≤_};
+ghost use Rattle.round.specs.Form.{institutesMost, kindDue, entryWidth, seatWidth};
 ghost use Rattle.round.specs.Records.{formOf};
 
 // The form of a file, and so of the seats of its round.
@@ -41,6 +42,17 @@ pub fn entry_width(form: Form) -> usize
     match form {
         Form::Narrow => 2,
         Form::Wide => 3,
+    }
+}
+
+// The bytes of the seats of so many candidates.
+pub fn seats_size(form: Form, candidates: usize) -> usize
+    requires { ⌜ candidates ≤ 512 ⌝ }
+    ensures { λ r. ⌜ r ≡ seatWidth form * candidates ⌝ }
+{
+    match form {
+        Form::Narrow => 2 * candidates,
+        Form::Wide => 4 * candidates,
     }
 }
 

@@ -12,6 +12,13 @@ pub fn wide(x: u8) -> usize
     x as usize
 }
 
+// A two-byte number of a table as a number.
+pub fn long(x: u16) -> usize
+    ensures { λ r. ⌜ (r ≡ x) × (r < 65536) ⌝ }
+{
+    x as usize
+}
+
 // The two-byte number at a place, little-endian.
 pub fn word(s: &[u8], i: usize) -> usize
     requires { ⌜ i + 2 ≤ length (now s) ⌝ }

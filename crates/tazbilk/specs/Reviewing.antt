@@ -4,6 +4,7 @@ use mathlib.Core.Path.{_≡_}
 use mathlib.Core.List.{List, [], _∷_}
 use lib.ListN.{take}
 use Rattle.round.specs.Category.{codeOf}
+use Rattle.round.specs.Records.{formOf}
 use Rattle.round.specs.Reading.{roundOf}
 use Rattle.allotment.specs.Outcome.{answerAfter, Accepted}
 use Rattle.review.specs.declared.Judgement.{Judgement}
@@ -24,7 +25,7 @@ numbersOf (BetterEntry candidate entry) = 3 ∷ candidate ∷ entry .institute �
 unfoldable pub UnitsListPasses : List ℕ → List ℕ → List ℕ → Type 0
 UnitsListPasses file list work =
     (answer workThen : List ℕ) → Accepted file answer workThen →
-    list ≡ take (listSize (roundOf file)) (answerAfter file answer workThen) →
+    list ≡ take (listSize (formOf file) (roundOf file)) (answerAfter file answer workThen) →
     Reviewed file list work → Passing file list work
 
 -- of a call: the numbers it leaves are those of a judgement that keeps the whole promise, and the unit's own list passes
