@@ -1,5 +1,5 @@
 -- What it says of a record that its questions were answered yes, as facts.
-use Prim.Native.Nat.{ℕ, _+_, _*_, _%_, _^_, _<_, _≤_}
+use Prim.Native.Nat.{ℕ, _+_, _*_, _-_, _%_, _^_, _<_, _≤_}
 use mathlib.Core.Path.{_≡_}
 use mathlib.Core.Bool.{Bool, true, _&&_, _||_}
 use mathlib.Core.Logic.{_⊎_, inl, inr, ⊎-elim}
@@ -8,10 +8,12 @@ use native.Mathlib.Omega.{arith}
 use borrow.Author.Tests.{leb-true, eqb-true, eqb-false}
 use lib.Dec.{leb, eqb}
 use lib.ListN.{length, getD, drop, length-take, length-drop}
+use Rattle.round.specs.declared.form.Form.{Form}
 use Rattle.round.specs.declared.head.Head.{Head as CodeHead}
+use Rattle.round.specs.Form.{institutesMost, kindDue, entryWidth}
 use Rattle.round.specs.Lists.{sumOf}
 use Rattle.round.specs.Records.{Head, headIn, kindAt, lengthAt, bodyAt}
-use Rattle.round.specs.Questions.{within, even, lengthAllowed, firstNo, questionsAt, kindQuestions, headQuestions, instituteQuestions, candidateQuestions, meritQuestions, positionsIn, reservedIn, entryCount, instituteIn, codeIn, meritCount, meritIn}
+use Rattle.round.specs.Questions.{within, lengthAllowed, firstNo, questionsAt, kindQuestions, headQuestions, instituteQuestions, candidateQuestions, meritQuestions, positionsIn, reservedIn, entryCount, instituteIn, codeIn, meritCount, meritIn}
 use Rattle.round.specs.Read.{asHead, InRange, InstituteBody, CandidateBody}
 use Rattle.round.proofs.Words.{and-fst, and-snd, and-no, or-cases, all-at, apart-at}
 use Rattle.round.proofs.Passed.{yes}
@@ -25,7 +27,7 @@ within-to low high x e = leb-true x high (and-snd (leb low x) _ e)
 -- 1 to 4
 pub record LeadYes (file : List ℕ) (h : Head) (kind start : ℕ) : Type 0 where
   pub lead-there : start + 4 ≤ length file
-  pub kind-due : kindAt file start ≡ kind
+  pub kind-due : kindAt file start ≡ kindDue (h .form) kind
   pub allowed : lengthAllowed h kind (lengthAt file start) ≡ true
   pub body-there : start + 4 + lengthAt file start ≤ length file
   pub body-length : length (bodyAt file start) ≡ lengthAt file start
@@ -53,17 +55,17 @@ lead-yes file h kind start e =
     }
 
 -- 5
-pub head-yes : (body : List ℕ) → firstNo (headQuestions body) ≡ 0 → InRange (headIn body)
-head-yes body e =
-    let h = headIn body in
+pub head-yes : (form : Form) (body : List ℕ) → firstNo (headQuestions form body) ≡ 0 → InRange (headIn form body)
+head-yes form body e =
+    let h = headIn form body in
     let a = yes 4 _ _ e .0 in
     let b = and-snd (within 1 512 (h .candidates)) _ a in
-    let c = and-snd (within 1 32 (h .institutes)) _ b in
+    let c = and-snd (within 1 (institutesMost form) (h .institutes)) _ b in
     record {
       candidates-least = within-from 1 512 (h .candidates) (and-fst _ _ a);
       candidates-most = within-to 1 512 (h .candidates) (and-fst _ _ a);
-      institutes-least = within-from 1 32 (h .institutes) (and-fst _ _ b);
-      institutes-most = within-to 1 32 (h .institutes) (and-fst _ _ b);
+      institutes-least = within-from 1 (institutesMost form) (h .institutes) (and-fst _ _ b);
+      institutes-most = within-to 1 (institutesMost form) (h .institutes) (and-fst _ _ b);
       types-most = leb-true _ _ (and-fst _ _ c);
       policy-most = leb-true _ _ (and-snd (leb (h .types) 8) _ c);
     }
@@ -83,33 +85,34 @@ institute-yes h body e =
     }
 
 -- 8 to 10
-pub record CandidateYes (institutes types : ℕ) (body : List ℕ) : Type 0 where
+pub record CandidateYes (form : Form) (institutes types : ℕ) (body : List ℕ) : Type 0 where
   pub own-code : getD body 0 0 ≤ 4
   pub marks-held : getD body 1 0 < 2 ^ types
-  pub entry-from : (k : ℕ) → k < entryCount body → 1 ≤ instituteIn body k
-  pub entry-to : (k : ℕ) → k < entryCount body → instituteIn body k ≤ institutes
-  pub entry-own : (k : ℕ) → k < entryCount body → (codeIn body k ≡ 0) ⊎ (codeIn body k ≡ getD body 0 0)
-  pub entries-differ : (k l : ℕ) → k < l → l < entryCount body → instituteIn body k ≡ instituteIn body l → codeIn body k ≡ codeIn body l → ⊥
+  pub entry-from : (k : ℕ) → k < entryCount form body → 1 ≤ instituteIn form body k
+  pub entry-to : (k : ℕ) → k < entryCount form body → instituteIn form body k ≤ institutes
+  pub entry-own : (k : ℕ) → k < entryCount form body → (codeIn form body k ≡ 0) ⊎ (codeIn form body k ≡ getD body 0 0)
+  pub entries-differ : (k l : ℕ) → k < l → l < entryCount form body → instituteIn form body k ≡ instituteIn form body l → codeIn form body k ≡ codeIn form body l → ⊥
 
-pub candidate-yes : (h : Head) (body : List ℕ) → firstNo (candidateQuestions h body) ≡ 0 → CandidateYes (h .institutes) (h .types) body
+pub candidate-yes : (h : Head) (body : List ℕ) → firstNo (candidateQuestions h body) ≡ 0 → CandidateYes (h .form) (h .institutes) (h .types) body
 candidate-yes h body e =
     let own : ℕ = getD body 0 0 in
-    let lawful : ℕ → Bool =
-    λ k. within 1 (h .institutes) (instituteIn body k) && (eqb (codeIn body k) 0 || eqb (codeIn body k) own) in
-    let same : ℕ → ℕ → Bool =
-    λ k l. eqb (instituteIn body k) (instituteIn body l) && eqb (codeIn body k) (codeIn body l) in
+    let entries : ℕ = entryCount (h .form) body in
+    let institute : ℕ → ℕ = instituteIn (h .form) body in
+    let code : ℕ → ℕ = codeIn (h .form) body in
+    let lawful : ℕ → Bool = λ k. within 1 (h .institutes) (institute k) && (eqb (code k) 0 || eqb (code k) own) in
+    let same : ℕ → ℕ → Bool = λ k l. eqb (institute k) (institute l) && eqb (code k) (code l) in
     let a = yes 7 _ _ e in
     let b = yes 8 _ _ (a .1) in
     let c = yes 9 _ _ (b .1) in
-    let each : (k : ℕ) → k < entryCount body → lawful k ≡ true = all-at (entryCount body) lawful (b .0) in
+    let each : (k : ℕ) → k < entries → lawful k ≡ true = all-at entries lawful (b .0) in
     record {
       own-code = leb-true _ _ (and-fst _ _ (a .0));
       marks-held = leb-true _ _ (and-snd (leb own 4) _ (a .0));
-      entry-from = λ k l. within-from 1 (h .institutes) (instituteIn body k) (and-fst _ _ (each k l));
-      entry-to = λ k l. within-to 1 (h .institutes) (instituteIn body k) (and-fst _ _ (each k l));
-      entry-own = λ k l. ⊎-elim (λ e. inl (eqb-true _ _ e)) (λ e. inr (eqb-true _ _ e)) (or-cases (eqb (codeIn body k) 0) _ (and-snd (within 1 (h .institutes) (instituteIn body k)) _ (each k l)));
+      entry-from = λ k l. within-from 1 (h .institutes) (institute k) (and-fst _ _ (each k l));
+      entry-to = λ k l. within-to 1 (h .institutes) (institute k) (and-fst _ _ (each k l));
+      entry-own = λ k l. ⊎-elim (λ e. inl (eqb-true _ _ e)) (λ e. inr (eqb-true _ _ e)) (or-cases (eqb (code k) 0) _ (and-snd (within 1 (h .institutes) (institute k)) _ (each k l)));
       entries-differ = λ k l kl ll i j.
-          eqb-false (codeIn body k) (codeIn body l) (and-no (eqb (instituteIn body k) (instituteIn body l)) _ (apart-at (entryCount body) same (c .0) k l kl ll) (borrow.Author.Tests.eq-eqb _ _ i)) j;
+          eqb-false (code k) (code l) (and-no (eqb (institute k) (institute l)) _ (apart-at entries same (c .0) k l kl ll) (borrow.Author.Tests.eq-eqb _ _ i)) j;
     }
 
 -- 11 and 12
@@ -138,18 +141,19 @@ length-head h len e = eqb-true len 8 e
 pub length-institute : (h : Head) (len : ℕ) → lengthAllowed h 2 len ≡ true → len ≡ 10 + 10 * h .types
 length-institute h len e = eqb-true len (10 + 10 * h .types) e
 
-pub record LengthCandidate (len : ℕ) : Type 0 where
+pub record LengthCandidate (form : Form) (len : ℕ) : Type 0 where
   pub least : 2 ≤ len
-  pub most : len ≤ 34
-  pub by-two : len % 2 ≡ 0
+  pub most : len ≤ 2 + 16 * entryWidth form
+  pub by-width : (len - 2) % entryWidth form ≡ 0
 
-pub length-candidate : (h : Head) (len : ℕ) → lengthAllowed h 3 len ≡ true → LengthCandidate len
+pub length-candidate : (h : Head) (len : ℕ) → lengthAllowed h 3 len ≡ true → LengthCandidate (h .form) len
 length-candidate h len e =
-    let a = and-fst (within 2 34 len) (even len) e in
+    let width : ℕ = entryWidth (h .form) in
+    let a = and-fst (within 2 (2 + 16 * width) len) (eqb ((len - 2) % width) 0) e in
     record {
-      least = within-from 2 34 len a;
-      most = within-to 2 34 len a;
-      by-two = eqb-true (len % 2) 0 (and-snd (within 2 34 len) (even len) e);
+      least = within-from 2 (2 + 16 * width) len a;
+      most = within-to 2 (2 + 16 * width) len a;
+      by-width = eqb-true ((len - 2) % width) 0 (and-snd (within 2 (2 + 16 * width) len) _ e);
     }
 
 -- a body of an allowed length is as long as the questions of its kind ask
@@ -159,7 +163,7 @@ head-long h kind len e a = omega (arith, length-head h len (rw e at a))
 pub institute-long : (k : CodeHead) (kind : ℕ) (body : List ℕ) → InRange (asHead k) → kind ≡ 2 → lengthAllowed (asHead k) kind (length body) ≡ true → InstituteBody (k .types) body
 institute-long k kind body y e a = record { types-most = y .types-most; long = length-institute (asHead k) (length body) (rw e at a) }
 
-pub candidate-long : (h : Head) (kind : ℕ) (body : List ℕ) → kind ≡ 3 → lengthAllowed h kind (length body) ≡ true → CandidateBody body
+pub candidate-long : (h : Head) (kind : ℕ) (body : List ℕ) → kind ≡ 3 → lengthAllowed h kind (length body) ≡ true → CandidateBody (h .form) body
 candidate-long h kind body e a =
     let fits = length-candidate h (length body) (rw e at a) in
     record { least = fits .least; most = fits .most }

@@ -9,7 +9,7 @@ use Rattle.round.specs.declared.entry.Category.{Category}
 use Rattle.round.specs.declared.entry.Entry.{Entry}
 use Rattle.round.specs.Category.{categoryOf}
 use Rattle.round.specs.Lists.{tabulate}
-use Rattle.round.specs.Records.{Head, headOf, lengthAt, bodyAt, startOf, bodyOf, instituteRecord, candidateRecord, meritRecord}
+use Rattle.round.specs.Records.{Head, formOf, headOf, lengthAt, bodyAt, startOf, bodyOf, instituteRecord, candidateRecord, meritRecord}
 use Rattle.round.specs.Questions.{entryCount, instituteIn, codeIn, meritCount, meritIn}
 use Rattle.round.specs.Round.{Candidate, Institute}
 use Rattle.round.specs.Reading.{stepsIn, entryIn, candidateIn, instituteFrom}
@@ -35,7 +35,7 @@ module _ (file starts : List ℕ) (i : ℕ) (y : CandidateKnown file starts i) w
       let fits = answers.length-candidate (headOf file) (lengthAt file (getD starts i 0)) (lead .allowed) in
       let same : length body ≡ lengthAt file (getD starts i 0) = ap length e ∙ lead .body-length in
       record {
-        candidate-of = ap candidateIn (e ∙ ap (bodyAt file) start) ∙ sym (candidate-at file i (y .below));
+        candidate-of = ap (candidateIn (formOf file)) (e ∙ ap (bodyAt file) start) ∙ sym (candidate-at file i (y .below));
         long = record { least = rw same (fits .least); most = rw same (fits .most) };
       }
 
@@ -63,16 +63,16 @@ module _ (file : List ℕ) (i : ℕ) {body : List ℕ} (r : CandidateRead file i
   unfolding candidateIn
   marks-of-body = ap (λ (c : Candidate). c .marks) (r .candidate-of)
 
-  pub row-length : length (candidateOf file i .row) ≡ entryCount body
+  pub row-length : length (candidateOf file i .row) ≡ entryCount (formOf file) body
   unfolding candidateIn
-  row-length = sym (ap (λ (c : Candidate). length (c .row)) (r .candidate-of)) ∙ length-tabulate 0 (entryCount body) (entryIn body)
+  row-length = sym (ap (λ (c : Candidate). length (c .row)) (r .candidate-of)) ∙ length-tabulate 0 (entryCount (formOf file) body) (entryIn (formOf file) body)
 
-  row-entry : (k : ℕ) → k < entryCount body → entryAt (candidateOf file i) k ≡ entryIn body k
+  row-entry : (k : ℕ) → k < entryCount (formOf file) body → entryAt (candidateOf file i) k ≡ entryIn (formOf file) body k
   unfolding candidateIn
-  row-entry k l = sym (ap (λ (c : Candidate). entryAt c k) (r .candidate-of)) ∙ tabulate-at (entryCount body) (entryIn body) noEntry k l
+  row-entry k l = sym (ap (λ (c : Candidate). entryAt c k) (r .candidate-of)) ∙ tabulate-at (entryCount (formOf file) body) (entryIn (formOf file) body) noEntry k l
 
   pub entry-read : (k : ℕ) {institute : ℕ} {category : Category} → k < length (candidateOf file i .row)
-      → institute ≡ instituteIn body k → category ≡ categoryOf (codeIn body k)
+      → institute ≡ instituteIn (formOf file) body k → category ≡ categoryOf (codeIn (formOf file) body k)
       → _≡_ {A = Entry} (record { institute = institute; category = category }) (entryAt (candidateOf file i) k)
   unfolding entryIn
   entry-read k l e d =

@@ -1,5 +1,6 @@
 pub mod Words
 pub mod Joined
+pub mod Forms
 pub mod Passed
 pub mod Answers
 pub mod Sound

@@ -1,5 +1,5 @@
--- The longest lawful file has 55,372 bytes, and the first 55,373 bytes of any file decide its verdict.
-use Prim.Native.Nat.{ℕ, zero, suc, _+_, _*_, _≤_}
+-- The longest lawful narrow file has 55,372 bytes, the longest wide one 1,149,660, and one byte more of any file decides its verdict.
+use Prim.Native.Nat.{ℕ, zero, suc, _+_, _*_, _<_, _≤_}
 use mathlib.Core.Path.{_≡_, refl, sym, ap, ap₂, _∙_}
 use mathlib.Core.Bool.{Bool, true, false, cond, _&&_}
 use mathlib.Core.List.{List, [], _∷_, _++_}
@@ -9,8 +9,11 @@ use borrow.Author.Tests.{leb-true, leb-false, le-leb, ne-eqb, eqb-true}
 use lib.Dec.{leb, eqb}
 use lib.ListN.{length, take, drop, replicate, length-take}
 use lib.Seq.{getD-take, take-take, take-all}
-use Rattle.round.specs.Records.{Head, headIn, headOf, dueAfter, word, kindAt, lengthAt, bodyAt, nextAt}
-use Rattle.round.specs.Questions.{within, even, firstNo, questionsAt, kindQuestions, lengthAllowed}
+use Rattle.round.specs.declared.form.Form.{Form}
+use Rattle.round.specs.declared.form.Form.the-variants.{Narrow, Wide}
+use Rattle.round.specs.Form.{institutesMost, kindDue, entryWidth}
+use Rattle.round.specs.Records.{Head, formOf, headIn, headOf, dueAfter, word, kindAt, lengthAt, bodyAt, nextAt}
+use Rattle.round.specs.Questions.{even, rowAllowed, firstNo, questionsAt, kindQuestions, lengthAllowed}
 use Rattle.round.specs.Refusal.{Verdict, passes, refused, verdictFrom, verdict}
 use Rattle.round.specs.Read.{InRange}
 use Rattle.round.proofs.Words.{and-fst, append-none}
@@ -18,19 +21,28 @@ use Rattle.round.proofs.Passed.{judged-yes, ending-yes}
 use Rattle.round.proofs.Answers as answers
 use Rattle.round.proofs.Rest.{head-questions}
 
+-- the bytes of the longest lawful file
+abbrev pub fileMost : Form → ℕ
+fileMost Narrow = 55372
+fileMost Wide = 1149660
+
+most-least : (form : Form) → 12 ≤ fileMost form
+most-least Narrow = omega arith
+most-least Wide = omega arith
+
 -- the greatest body length that the table allows for a kind
 abbrev most : Head → ℕ → ℕ
-most h kind = cond (eqb kind 1) 8 (cond (eqb kind 2) (10 + 10 * h .types) (cond (eqb kind 3) 34 (2 * h .candidates)))
+most h kind = cond (eqb kind 1) 8 (cond (eqb kind 2) (10 + 10 * h .types) (cond (eqb kind 3) (2 + 16 * entryWidth (h .form)) (2 * h .candidates)))
 
 allowed-most : (h : Head) (kind len : ℕ) → lengthAllowed h kind len ≡ true → len ≤ most h kind
 allowed-most h kind len = go (eqb kind 1) (eqb kind 2) (eqb kind 3)
   where
     go : (a b c : Bool)
-        → cond a (eqb len 8) (cond b (eqb len (10 + 10 * h .types)) (cond c (within 2 34 len && even len) (leb len (2 * h .candidates) && even len))) ≡ true
-        → len ≤ cond a 8 (cond b (10 + 10 * h .types) (cond c 34 (2 * h .candidates)))
+        → cond a (eqb len 8) (cond b (eqb len (10 + 10 * h .types)) (cond c (rowAllowed (h .form) len) (leb len (2 * h .candidates) && even len))) ≡ true
+        → len ≤ cond a 8 (cond b (10 + 10 * h .types) (cond c (2 + 16 * entryWidth (h .form)) (2 * h .candidates)))
     go true b c e = omega (arith, eqb-true len 8 e)
     go false true c e = omega (arith, eqb-true len (10 + 10 * h .types) e)
-    go false false true e = answers.within-to 2 34 len (and-fst (within 2 34 len) (even len) e)
+    go false false true e = answers.length-candidate h len e .most
     go false false false e = leb-true len (2 * h .candidates) (and-fst (leb len (2 * h .candidates)) (even len) e)
 
 -- the most bytes that records of these kinds take
@@ -42,7 +54,23 @@ total-run : (h : Head) (n kind : ℕ) (kinds : List ℕ) → total h (replicate 
 total-run h zero kind kinds = omega arith
 total-run h (suc n) kind kinds = omega (arith, total-run h n kind kinds)
 
-total-due : (h : Head) → InRange h → total h (dueAfter h) ≤ 55360
+-- the records after the head, and the 12 bytes of the head, by the numbers of the round
+by-numbers : (form : Form) (n m t : ℕ) → n ≤ 512 → m ≤ institutesMost form → t ≤ 8
+    → 12 + (m * (4 + (10 + 10 * t)) + (n * (4 + (2 + 16 * entryWidth form)) + m * (4 + 2 * n))) ≤ fileMost form
+by-numbers form n m t few some l = go form some
+  where
+    by-types : 4 + (10 + 10 * t) ≤ 94
+    by-types = omega arith
+
+    by-candidates : 4 + 2 * n ≤ 1028
+    by-candidates = omega arith
+
+    go : (form : Form) → m ≤ institutesMost form
+        → 12 + (m * (4 + (10 + 10 * t)) + (n * (4 + (2 + 16 * entryWidth form)) + m * (4 + 2 * n))) ≤ fileMost form
+    go Narrow some = omega (arith, mul-le-mul some by-types, mul-le-mul some by-candidates)
+    go Wide some = omega (arith, mul-le-mul some by-types, mul-le-mul some by-candidates)
+
+total-due : (h : Head) → InRange h → 12 + total h (dueAfter h) ≤ fileMost (h .form)
 total-due h y =
     let n : ℕ = h .candidates in
     let m : ℕ = h .institutes in
@@ -52,16 +80,8 @@ total-due h y =
       total-run h m 2 (replicate n 3 ++ replicate m 4),
       total-run h n 3 (replicate m 4),
       lists,
-      mul-le-mul (y .institutes-most) (by-types (h .types) (y .types-most)),
-      mul-le-mul (y .institutes-most) (by-candidates n (y .candidates-most)),
-      y .candidates-most,
+      by-numbers (h .form) n m (h .types) (y .candidates-most) (y .institutes-most) (y .types-most),
     )
-  where
-    by-types : (t : ℕ) → t ≤ 8 → 4 + (10 + 10 * t) ≤ 94
-    by-types t l = omega arith
-
-    by-candidates : (n : ℕ) → n ≤ 512 → 4 + 2 * n ≤ 1028
-    by-candidates n l = omega arith
 
 module _ (file : List ℕ) where
   -- a record whose questions are answered yes is no longer than its kind allows
@@ -75,8 +95,8 @@ module _ (file : List ℕ) where
       let both = judged-yes (firstNo (questionsAt file h kind start)) start (verdictFrom file h kinds (nextAt file start)) e in
       omega (arith, longest-from h kinds (nextAt file start) (both .1), next-most h kind start (both .0))
 
--- a file that passes has at most 55,372 bytes
-pub longest : (file : List ℕ) → verdict file ≡ passes → length file ≤ 55372
+-- a file that passes is no longer than the longest of its form
+pub longest : (file : List ℕ) → verdict file ≡ passes → length file ≤ fileMost (formOf file)
 unfolding verdict
 longest file e =
     let h : Head = headOf file in
@@ -86,7 +106,7 @@ longest file e =
       arith,
       longest-from file h (dueAfter h) (nextAt file 0) (both .1),
       next-most file h 1 0 (both .0),
-      total-due h (answers.head-yes (bodyAt file 0) (lead .body-yes)),
+      total-due h (answers.head-yes (formOf file) (bodyAt file 0) (lead .body-yes)),
     )
 
 -- a part of a file that lies within its first bytes
@@ -100,113 +120,136 @@ part-take (suc a) n (suc most) (x ∷ l) h = part-take a n most l (omega arith)
 abbrev five : Bool → Bool → Bool → Bool → ℕ → ℕ
 five a b c d rest = cond a (cond b (cond c (cond d rest 4) 3) 2) 1
 
--- a file with at least 55,373 bytes, and just those
-module _ (file : List ℕ) (long : 55373 ≤ length file) where
-  length-cut : length (take 55373 file) ≡ 55373
-  length-cut = omega (arith, length-take 55373 file)
+-- a file, and its first bytes, so many that the head is among them
+module _ (file : List ℕ) (cut : ℕ) (enough : 12 < cut) (long : cut ≤ length file) where
+  length-cut : length (take cut file) ≡ cut
+  length-cut = omega (arith, length-take cut file)
 
-  same-word : (i : ℕ) → i + 2 ≤ 55373 → word (take 55373 file) i ≡ word file i
-  same-word i l = ap₂ (λ (x y : ℕ). x + 256 * y) (getD-take 55373 file i 0 (omega arith)) (getD-take 55373 file (suc i) 0 (omega arith))
+  same-word : (i : ℕ) → i + 2 ≤ cut → word (take cut file) i ≡ word file i
+  same-word i l = ap₂ (λ (x y : ℕ). x + 256 * y) (getD-take cut file i 0 (omega arith)) (getD-take cut file (suc i) 0 (omega arith))
 
-  module _ (h : Head) (kind start : ℕ) (room : start + (4 + most h kind) ≤ 55372) where
-    same-length : lengthAt (take 55373 file) start ≡ lengthAt file start
+  module _ (h : Head) (kind start : ℕ) (room : start + (4 + most h kind) < cut) where
+    same-length : lengthAt (take cut file) start ≡ lengthAt file start
     same-length = same-word start (omega arith)
 
-    same-kind : kindAt (take 55373 file) start ≡ kindAt file start
+    same-kind : kindAt (take cut file) start ≡ kindAt file start
     same-kind = same-word (start + 2) (omega arith)
 
-    same-next : nextAt (take 55373 file) start ≡ nextAt file start
+    same-next : nextAt (take cut file) start ≡ nextAt file start
     same-next = ap (λ (n : ℕ). start + 4 + n) same-length
 
-    same-body : lengthAt file start ≤ most h kind → bodyAt (take 55373 file) start ≡ bodyAt file start
-    same-body l = rw same-length (part-take (start + 4) (lengthAt file start) 55373 file (omega arith))
+    same-body : lengthAt file start ≤ most h kind → bodyAt (take cut file) start ≡ bodyAt file start
+    same-body l = rw same-length (part-take (start + 4) (lengthAt file start) cut file (omega arith))
 
-    fourth : (len n : ℕ) → len ≤ most h kind → 55373 ≤ n → leb (start + 4 + len) n ≡ true
+    fourth : (len n : ℕ) → len ≤ most h kind → cut ≤ n → leb (start + 4 + len) n ≡ true
     fourth len n l m = le-leb (start + 4 + len) n (omega arith)
 
     -- the questions have the same answers
-    same-questions : firstNo (questionsAt (take 55373 file) h kind start) ≡ firstNo (questionsAt file h kind start)
+    same-questions : firstNo (questionsAt (take cut file) h kind start) ≡ firstNo (questionsAt file h kind start)
     unfolding questionsAt
     same-questions = go (lengthAllowed h kind (lengthAt file start)) refl
       where
-        first : leb (start + 4) (length (take 55373 file)) ≡ leb (start + 4) (length file)
-        first = le-leb (start + 4) (length (take 55373 file)) (omega (arith, length-cut)) ∙ sym (le-leb (start + 4) (length file) (omega arith))
+        first : leb (start + 4) (length (take cut file)) ≡ leb (start + 4) (length file)
+        first = le-leb (start + 4) (length (take cut file)) (omega (arith, length-cut)) ∙ sym (le-leb (start + 4) (length file) (omega arith))
 
-        second : eqb (kindAt (take 55373 file) start) kind ≡ eqb (kindAt file start) kind
-        second = ap (λ (n : ℕ). eqb n kind) same-kind
+        second : eqb (kindAt (take cut file) start) (kindDue (h .form) kind) ≡ eqb (kindAt file start) (kindDue (h .form) kind)
+        second = ap (λ (n : ℕ). eqb n (kindDue (h .form) kind)) same-kind
 
-        third : lengthAllowed h kind (lengthAt (take 55373 file) start) ≡ lengthAllowed h kind (lengthAt file start)
+        third : lengthAllowed h kind (lengthAt (take cut file) start) ≡ lengthAllowed h kind (lengthAt file start)
         third = ap (lengthAllowed h kind) same-length
 
         go : (b : Bool) → lengthAllowed h kind (lengthAt file start) ≡ b
-            → five (leb (start + 4) (length (take 55373 file))) (eqb (kindAt (take 55373 file) start) kind) (lengthAllowed h kind (lengthAt (take 55373 file) start))
-            (leb (nextAt (take 55373 file) start) (length (take 55373 file))) (firstNo (kindQuestions h kind (bodyAt (take 55373 file) start)))
-            ≡ five (leb (start + 4) (length file)) (eqb (kindAt file start) kind) (lengthAllowed h kind (lengthAt file start))
+            → five (leb (start + 4) (length (take cut file))) (eqb (kindAt (take cut file) start) (kindDue (h .form) kind)) (lengthAllowed h kind (lengthAt (take cut file) start))
+            (leb (nextAt (take cut file) start) (length (take cut file))) (firstNo (kindQuestions h kind (bodyAt (take cut file) start)))
+            ≡ five (leb (start + 4) (length file)) (eqb (kindAt file start) (kindDue (h .form) kind)) (lengthAllowed h kind (lengthAt file start))
             (leb (nextAt file start) (length file)) (firstNo (kindQuestions h kind (bodyAt file start)))
         go true e =
             let l : lengthAt file start ≤ most h kind = allowed-most h kind (lengthAt file start) e in
-            let l′ : lengthAt (take 55373 file) start ≤ most h kind = omega (arith, same-length) in
-            rw (first, second, third, same-body l, fourth (lengthAt (take 55373 file) start) (length (take 55373 file)) l′ (omega (arith, length-cut)), fourth (lengthAt file start) (length file) l long)
+            let l′ : lengthAt (take cut file) start ≤ most h kind = omega (arith, same-length) in
+            rw (first, second, third, same-body l, fourth (lengthAt (take cut file) start) (length (take cut file)) l′ (omega (arith, length-cut)), fourth (lengthAt file start) (length file) l long)
         go false e = rw (first, second, third, e)
 
   -- the verdict on the rest, where each record has room
-  same-from : (h : Head) (kinds : List ℕ) (start : ℕ) → start + total h kinds ≤ 55372 → verdictFrom (take 55373 file) h kinds start ≡ verdictFrom file h kinds start
+  same-from : (h : Head) (kinds : List ℕ) (start : ℕ) → start + total h kinds < cut → verdictFrom (take cut file) h kinds start ≡ verdictFrom file h kinds start
   unfolding verdictFrom
   same-from h [] start room =
-      let short : start ≡ length (take 55373 file) → ⊥ = λ e. omega (arith, length-cut) in
+      let short : start ≡ length (take cut file) → ⊥ = λ e. omega (arith, length-cut) in
       let shorter : start ≡ length file → ⊥ = λ e. omega arith in
-      rw (ne-eqb start (length (take 55373 file)) short, ne-eqb start (length file) shorter)
+      rw (ne-eqb start (length (take cut file)) short, ne-eqb start (length file) shorter)
   same-from h (kind ∷ kinds) start room =
-      let here : start + (4 + most h kind) ≤ 55372 = omega arith in
+      let here : start + (4 + most h kind) < cut = omega arith in
       let q = same-questions h kind start here in
       let n = same-next h kind start here in
       rw (q, n) (go (firstNo (questionsAt file h kind start)) refl (λ l. same-from h kinds (nextAt file start) (omega arith)))
     where
       go : (m : ℕ) → firstNo (questionsAt file h kind start) ≡ m
-          → (nextAt file start ≤ start + (4 + most h kind) → verdictFrom (take 55373 file) h kinds (nextAt file start) ≡ verdictFrom file h kinds (nextAt file start))
-          → cond (eqb (firstNo (questionsAt file h kind start)) 0) (verdictFrom (take 55373 file) h kinds (nextAt file start)) (refused (firstNo (questionsAt file h kind start)) start)
+          → (nextAt file start ≤ start + (4 + most h kind) → verdictFrom (take cut file) h kinds (nextAt file start) ≡ verdictFrom file h kinds (nextAt file start))
+          → cond (eqb (firstNo (questionsAt file h kind start)) 0) (verdictFrom (take cut file) h kinds (nextAt file start)) (refused (firstNo (questionsAt file h kind start)) start)
           ≡ cond (eqb (firstNo (questionsAt file h kind start)) 0) (verdictFrom file h kinds (nextAt file start)) (refused (firstNo (questionsAt file h kind start)) start)
       go zero e ih = rw (ih (next-most file h kind start e))
       go (suc m) e ih = rw (ne-eqb (firstNo (questionsAt file h kind start)) 0 (λ z. omega arith))
 
+  cut-form : formOf (take cut file) ≡ formOf file
+  unfolding formOf
+  cut-form =
+      let there : leb 4 (length file) ≡ true = le-leb 4 (length file) (omega arith) in
+      let kept : leb 4 (length (take cut file)) ≡ true = le-leb 4 (length (take cut file)) (omega (arith, length-cut)) in
+      rw (there, kept, same-word 2 (omega arith))
+
   no-head : Head
-  no-head = record { candidates = 1; institutes = 1; types = 0; policy = 0 }
+  no-head = record { form = formOf file; candidates = 1; institutes = 1; types = 0; policy = 0 }
 
-  head-same : firstNo (questionsAt (take 55373 file) (headOf (take 55373 file)) 1 0) ≡ firstNo (questionsAt file (headOf file) 1 0)
+  head-same : firstNo (questionsAt (take cut file) (headOf (take cut file)) 1 0) ≡ firstNo (questionsAt file (headOf file) 1 0)
+  unfolding no-head
   head-same =
-      sym (ap firstNo (head-questions (take 55373 file) no-head))
-      ∙ (same-questions no-head 1 0 (omega arith) ∙ ap firstNo (head-questions file no-head))
+      sym (ap firstNo (head-questions (take cut file) no-head (sym cut-form)))
+      ∙ (same-questions no-head 1 0 (omega arith) ∙ ap firstNo (head-questions file no-head refl))
 
-  same-long : verdict (take 55373 file) ≡ verdict file
+  same-long : (InRange (headOf file) → 12 + total (headOf file) (dueAfter (headOf file)) < cut) → verdict (take cut file) ≡ verdict file
   unfolding verdict
-  same-long = rw head-same (go (firstNo (questionsAt file (headOf file) 1 0)) refl)
+  same-long room = rw head-same (go (firstNo (questionsAt file (headOf file) 1 0)) refl)
     where
       go : (m : ℕ) → firstNo (questionsAt file (headOf file) 1 0) ≡ m
           → cond (eqb (firstNo (questionsAt file (headOf file) 1 0)) 0)
-          (verdictFrom (take 55373 file) (headOf (take 55373 file)) (dueAfter (headOf (take 55373 file))) (nextAt (take 55373 file) 0))
+          (verdictFrom (take cut file) (headOf (take cut file)) (dueAfter (headOf (take cut file))) (nextAt (take cut file) 0))
           (refused (firstNo (questionsAt file (headOf file) 1 0)) 0)
           ≡ cond (eqb (firstNo (questionsAt file (headOf file) 1 0)) 0) (verdictFrom file (headOf file) (dueAfter (headOf file)) (nextAt file 0))
           (refused (firstNo (questionsAt file (headOf file) 1 0)) 0)
       go zero e =
           let lead = answers.lead-yes file (headOf file) 1 0 e in
           let eight : lengthAt file 0 ≤ 8 = omega (arith, answers.length-head (headOf file) (lengthAt file 0) (lead .allowed)) in
-          let same : headOf (take 55373 file) ≡ headOf file = ap headIn (same-body no-head 1 0 (omega arith) eight) in
-          let fits = total-due (headOf file) (answers.head-yes (bodyAt file 0) (lead .body-yes)) in
+          let same : headOf (take cut file) ≡ headOf file = ap₂ headIn cut-form (same-body no-head 1 0 (omega arith) eight) in
+          let fits = room (answers.head-yes (formOf file) (bodyAt file 0) (lead .body-yes)) in
           ap (λ (v : Verdict). cond (eqb (firstNo (questionsAt file (headOf file) 1 0)) 0) v (refused (firstNo (questionsAt file (headOf file) 1 0)) 0))
-          (ap₂ (λ (h : Head) (n : ℕ). verdictFrom (take 55373 file) h (dueAfter h) n) same (same-next no-head 1 0 (omega arith))
+          (ap₂ (λ (h : Head) (n : ℕ). verdictFrom (take cut file) h (dueAfter h) n) same (same-next no-head 1 0 (omega arith))
           ∙ same-from (headOf file) (dueAfter (headOf file)) (nextAt file 0) (omega (arith, next-most file (headOf file) 1 0 e, fits)))
       go (suc m) e = rw (ne-eqb (firstNo (questionsAt file (headOf file) 1 0)) 0 (λ z. omega arith))
 
--- the first 55,373 bytes of a file decide its verdict
-pub prefix : (file : List ℕ) → verdict (take 55373 file) ≡ verdict file
-prefix file = go (leb 55373 (length file)) refl
+-- the first bytes of a file that decide its verdict: one more than the longest lawful file of its form has
+pub prefix : (file : List ℕ) → verdict (take (suc (fileMost (formOf file))) file) ≡ verdict file
+prefix file = go (leb size (length file)) refl
   where
-    go : (b : Bool) → leb 55373 (length file) ≡ b → verdict (take 55373 file) ≡ verdict file
-    go true e = same-long file (leb-true 55373 (length file) e)
-    go false e = let short : length file ≤ 55373 = omega (arith, leb-false 55373 (length file) e) in ap verdict (take-all 55373 file short)
+    size : ℕ
+    size = suc (fileMost (formOf file))
 
--- a file whose first 55,373 bytes pass has no more
-pub whole : (file : List ℕ) → verdict (take 55373 file) ≡ passes → take 55373 file ≡ file
+    go : (b : Bool) → leb size (length file) ≡ b → verdict (take size file) ≡ verdict file
+    go true e =
+        same-long file size (omega (arith, most-least (formOf file))) (leb-true size (length file) e)
+        (λ y. omega (arith, total-due (headOf file) y))
+    go false e = let short : length file ≤ size = omega (arith, leb-false size (length file) e) in ap verdict (take-all size file short)
+
+-- the form stands in the first bytes
+form-cut : (cut : ℕ) (file : List ℕ) → 12 < cut → formOf (take cut file) ≡ formOf file
+form-cut cut file enough = go (leb cut (length file)) refl
+  where
+    go : (b : Bool) → leb cut (length file) ≡ b → formOf (take cut file) ≡ formOf file
+    go true e = cut-form file cut enough (leb-true cut (length file) e)
+    go false e = let short : length file ≤ cut = omega (arith, leb-false cut (length file) e) in ap formOf (take-all cut file short)
+
+-- a file whose first bytes, as many, pass has no more
+pub whole : (file : List ℕ) → verdict (take (suc (fileMost (formOf file))) file) ≡ passes → take (suc (fileMost (formOf file))) file ≡ file
 whole file e =
-    let short : length file ≤ 55373 = omega (arith, longest (take 55373 file) e, length-take 55373 file) in
-    take-all 55373 file short
+    let size : ℕ = suc (fileMost (formOf file)) in
+    let same : fileMost (formOf (take size file)) ≡ fileMost (formOf file) = ap fileMost (form-cut size file (omega (arith, most-least (formOf file)))) in
+    let short : length file ≤ size = omega (arith, same, longest (take size file) e, length-take size file) in
+    take-all size file short

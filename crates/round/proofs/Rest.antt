@@ -1,6 +1,6 @@
 -- What the records after the head come to, put together from the three kinds in a row; and the whole file.
 use Prim.Native.Nat.{ℕ, _+_, _-_, _≤_}
-use mathlib.Core.Path.{_≡_, refl, sym, ap, _∙_}
+use mathlib.Core.Path.{_≡_, refl, sym, ap, ap₂, _∙_}
 use mathlib.Core.Bool.{Bool, true, false, cond}
 use mathlib.Core.List.{List, [], _++_}
 use native.Mathlib.Omega.{arith}
@@ -9,10 +9,12 @@ use lib.Dec.{eqb}
 use lib.ListN.{length, take, drop, replicate}
 use Rattle.round.specs.declared.records.Part.{Part}
 use Rattle.round.specs.declared.records.Part.the-variants.{Lawful, Refused as PartRefused}
+use Rattle.round.specs.declared.form.Form.{Form}
 use Rattle.round.specs.declared.head.Head.{Head as CodeHead}
 use Rattle.round.specs.declared.reader.Reading.{Reading}
 use Rattle.round.specs.declared.reader.Reading.the-variants.{Read, Refused}
-use Rattle.round.specs.Records.{Head, headIn, headOf, dueAfter, lengthAt, bodyAt, nextAt, startOf}
+use Rattle.round.specs.Form.{institutesMost}
+use Rattle.round.specs.Records.{Head, formOf, headIn, headOf, dueAfter, lengthAt, bodyAt, nextAt, startOf}
 use Rattle.round.specs.Questions.{firstNo, questionsAt}
 use Rattle.round.specs.Refusal.{Verdict, passes, refused, verdictFrom, verdict}
 use Rattle.round.specs.Read.{asHead, InRange}
@@ -59,20 +61,20 @@ module _ (file : List ℕ) (k : CodeHead) (from : ℕ) where
   up : {r : Reading} {got : Part} {n o : ℕ} → r ≡ refusalOf got → got ≡ PartRefused n o → r ≡ Refused n o
   up e d = e ∙ ap refusalOf d
 
-  module _ {r₁ : Part} (R₁ : RunPart file (asHead k) 2 (k .institutes) from r₁) where
-    pub institutes-refused : {r : Reading} {n o : ℕ} (c₀ c m₀ m : List ℕ) → r ≡ refusalOf r₁ → r₁ ≡ PartRefused n o → RestRead file (asHead k) from r c₀ c m₀ m
+  module _ {r₁ : Part} {m₀ m₁ : List ℕ} (R₁ : RunRead file (asHead k) 2 (k .institutes) from m₀ r₁ m₁) where
+    pub institutes-refused : {r : Reading} {n o : ℕ} (c₀ c m : List ℕ) → r ≡ refusalOf r₁ → r₁ ≡ PartRefused n o → RestRead file (asHead k) from r c₀ c m₀ m
     unfolding rows lists
-    institutes-refused c₀ c m₀ m e d = rest-refused c₀ c m₀ m (up e d) (handed-part rows _ d (R₁ .verdict-of rows))
+    institutes-refused c₀ c m e d = rest-refused c₀ c m₀ m (up e d) (handed-part rows _ d (R₁ .part .verdict-of rows))
 
     module _ {e₁ : ℕ} (l₁ : r₁ ≡ Lawful e₁) {r₂ : Part} {c₀ c : List ℕ} (R₂ : RunRead file (asHead k) 3 (k .candidates) e₁ c₀ r₂ c) where
       rows-verdict : onward r₂ (verdictFrom file (asHead k) lists) ≡ verdictFrom file (asHead k) (dueAfter (asHead k)) from
       unfolding rows lists
-      rows-verdict = R₂ .part .verdict-of lists ∙ after-part rows _ l₁ (R₁ .verdict-of rows)
+      rows-verdict = R₂ .part .verdict-of lists ∙ after-part rows _ l₁ (R₁ .part .verdict-of rows)
 
-      pub rows-refused : {r : Reading} {n o : ℕ} (m₀ m : List ℕ) → r ≡ refusalOf r₂ → r₂ ≡ PartRefused n o → RestRead file (asHead k) from r c₀ c m₀ m
-      rows-refused m₀ m e d = rest-refused c₀ c m₀ m (up e d) (handed-part lists _ d rows-verdict)
+      pub rows-refused : {r : Reading} {n o : ℕ} (m : List ℕ) → r ≡ refusalOf r₂ → r₂ ≡ PartRefused n o → RestRead file (asHead k) from r c₀ c m₀ m
+      rows-refused m e d = rest-refused c₀ c m₀ m (up e d) (handed-part lists _ d rows-verdict)
 
-      module _ {e₂ : ℕ} (l₂ : r₂ ≡ Lawful e₂) {r₃ : Part} {m₀ m : List ℕ} (R₃ : RunRead file (asHead k) 4 (k .institutes) e₂ m₀ r₃ m) where
+      module _ {e₂ : ℕ} (l₂ : r₂ ≡ Lawful e₂) {r₃ : Part} {m : List ℕ} (R₃ : RunRead file (asHead k) 4 (k .institutes) e₂ m₁ r₃ m) where
         lists-verdict : onward r₃ (verdictFrom file (asHead k) []) ≡ verdictFrom file (asHead k) (dueAfter (asHead k)) from
         unfolding lists
         lists-verdict =
@@ -91,7 +93,7 @@ module _ (file : List ℕ) (k : CodeHead) (from : ℕ) where
           pub more-refused : (e₃ ≡ length file → ⊥) → RestRead file (asHead k) from (Refused 13 e₃) c₀ c m₀ m
           more-refused d = rest-refused c₀ c m₀ m refl (rw (ne-eqb e₃ (length file) d) at end-verdict)
 
-          pub rest-read : InRange (asHead k) → 512 ≤ length c₀ → 32 ≤ length m₀ → length c ≡ length c₀ → length m ≡ length m₀ → e₃ ≡ length file
+          pub rest-read : InRange (asHead k) → 512 ≤ length c₀ → institutesMost (k .form) ≤ length m₀ → length c ≡ length c₀ → length m ≡ length m₀ → e₃ ≡ length file
               → RestRead file (asHead k) from (Read k) c₀ c m₀ m
           rest-read y many more kept kept′ d = record {
             answer = rw (eq-eqb e₃ (length file) d) at end-verdict;
@@ -99,17 +101,17 @@ module _ (file : List ℕ) (k : CodeHead) (from : ℕ) where
             candidate-starts = λ j q s. record {
               room = omega (arith, y .candidates-most);
               starts-at = λ i l.
-                  R₂ .starts-at (1 + k .institutes) e₂ i (R₁ .ends 1 e₁ s l₁) l₂ l
+                  R₂ .starts-at (1 + k .institutes) e₂ i (R₁ .part .ends 1 e₁ s l₁) l₂ l
                   ∙ ap (startOf file) (assoc (k .institutes) i);
             };
             merit-starts = λ j q s. record {
               room = omega (arith, y .institutes-most);
               starts-at = λ i l.
-                  R₃ .starts-at (1 + k .institutes + k .candidates) e₃ i (R₂ .part .ends (1 + k .institutes) e₂ (R₁ .ends 1 e₁ s l₁) l₂) l₃ l
+                  R₃ .starts-at (1 + k .institutes + k .candidates) e₃ i (R₂ .part .ends (1 + k .institutes) e₂ (R₁ .part .ends 1 e₁ s l₁) l₂) l₃ l
                   ∙ ap (startOf file) (assoc₃ (k .institutes) (k .candidates) i);
             };
             candidates-kept = λ j i q l. R₂ .starts-kept i l;
-            merits-kept = λ j i q l. R₃ .starts-kept i l;
+            merits-kept = λ j i q l. R₃ .starts-kept i l ∙ R₁ .starts-kept i l;
           }
             where
               assoc : (a b : ℕ) → 1 + a + b ≡ 1 + (a + b)
@@ -118,14 +120,14 @@ module _ (file : List ℕ) (k : CodeHead) (from : ℕ) where
               assoc₃ : (a b c : ℕ) → 1 + a + b + c ≡ 1 + (a + (b + c))
               assoc₃ a b c = omega arith
 
--- the questions of the head need no head
-pub head-questions : (file : List ℕ) (h : Head) → questionsAt file h 1 0 ≡ questionsAt file (headOf file) 1 0
+-- the questions of the head need no more of a head than the form of the file
+pub head-questions : (file : List ℕ) (h : Head) → h .form ≡ formOf file → questionsAt file h 1 0 ≡ questionsAt file (headOf file) 1 0
 unfolding questionsAt
-head-questions file h = refl
+head-questions file h e = rw e
 
-module _ (file : List ℕ) {r₀ : Part} (h₀ : Head) (got : r₀ ≡ partBy (firstNo (questionsAt file h₀ 1 0)) 0 (nextAt file 0)) where
+module _ (file : List ℕ) {r₀ : Part} (h₀ : Head) (formed : h₀ .form ≡ formOf file) (got : r₀ ≡ partBy (firstNo (questionsAt file h₀ 1 0)) 0 (nextAt file 0)) where
   head-got : r₀ ≡ partBy (firstNo (questionsAt file (headOf file) 1 0)) 0 (nextAt file 0)
-  head-got = got ∙ ap (λ q. partBy (firstNo q) 0 (nextAt file 0)) (head-questions file h₀)
+  head-got = got ∙ ap (λ q. partBy (firstNo q) 0 (nextAt file 0)) (head-questions file h₀ formed)
 
   head-verdict : onward r₀ (verdictFrom file (headOf file) (dueAfter (headOf file))) ≡ verdict file
   unfolding verdict
@@ -176,12 +178,12 @@ module _ (file : List ℕ) {r₀ : Part} (h₀ : Head) (got : r₀ ≡ partBy (f
     pub head-room : 8 ≤ length (take (end - 4) (drop 4 file))
     head-room = rw head-body (omega (arith, lead .body-length, head-length))
 
-    module _ {k : CodeHead} (e : asHead k ≡ headIn (take (end - 4) (drop 4 file))) where
+    module _ {k : CodeHead} {form : Form} (f : form ≡ formOf file) (e : asHead k ≡ headIn form (take (end - 4) (drop 4 file))) where
       same-head : asHead k ≡ headOf file
-      same-head = e ∙ ap headIn head-body
+      same-head = e ∙ ap₂ headIn f head-body
 
       pub head-range : InRange (asHead k)
-      head-range = rw same-head (answers.head-yes (bodyAt file 0) (lead .body-yes))
+      head-range = rw same-head (answers.head-yes (formOf file) (bodyAt file 0) (lead .body-yes))
 
       pub round-read : {r : Reading} {c₀ c m₀ m : List ℕ} → RestRead file (asHead k) end r c₀ c m₀ m → RoundRead file r c₀ c m₀ m
       unfolding startOf

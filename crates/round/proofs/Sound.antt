@@ -1,5 +1,5 @@
 -- The round of a file that is not refused is sound.
-use Prim.Native.Nat.{ℕ, zero, suc, _<_, _≤_}
+use Prim.Native.Nat.{ℕ, zero, suc, _+_, _*_, _<_, _≤_}
 use mathlib.Core.Path.{_≡_, refl, sym, ap, _∙_}
 use mathlib.Core.Bool.{Bool, true, false, cond}
 use mathlib.Core.Logic.{inl, inr, ⊎-elim}
@@ -10,9 +10,11 @@ use lib.ListN.{length, getD, replicate, length-replicate}
 use borrow.Author.Tests.{ne-eqb}
 use Rattle.round.specs.declared.entry.Category.the-variants.{Open}
 use Rattle.round.specs.declared.entry.Entry.{Entry}
+use Rattle.round.specs.declared.form.Form.{Form}
 use Rattle.round.specs.Category.{codeOf, categoryOf}
+use Rattle.round.specs.Form.{entryWidth}
 use Rattle.round.specs.Lists.{sum, sumOf}
-use Rattle.round.specs.Records.{Head, headOf, lengthAt, bodyAt, bodyOf, startOf, instituteRecord, candidateRecord, meritRecord}
+use Rattle.round.specs.Records.{Head, formOf, headOf, lengthAt, bodyAt, bodyOf, startOf, instituteRecord, candidateRecord, meritRecord}
 use Rattle.round.specs.Questions.{reservedIn, entryCount, instituteIn, codeIn, meritCount, meritIn}
 use Rattle.round.specs.Refusal.{passes, verdict}
 use Rattle.round.specs.Round.{StepRule}
@@ -21,6 +23,7 @@ use Rattle.round.specs.Places.{candidateAt, instituteAt, entryAt, stepAt
 use Rattle.round.specs.Read.{InRange}
 use Rattle.round.specs.Sound.{SoundCandidate, SoundInstitute, Sound}
 use Rattle.round.proofs.Words.{length-tabulate, tabulate-at, sum-tabulate}
+use Rattle.round.proofs.Forms.{institutes-few, entries-few}
 use Rattle.round.proofs.Passed.{Passed, passed}
 use Rattle.round.proofs.Answers
 
@@ -54,45 +57,45 @@ steps-category types policy body (suc (suc (suc (suc zero)))) = refl
 steps-category types policy body (suc (suc (suc (suc (suc s))))) = beyond (eqb policy 1) types s ∙ no-code (suc (suc (suc (suc (suc s))))) (omega arith)
 
 -- a candidate's body
-module _ (institutes types : ℕ) (body : List ℕ) (y : Answers.CandidateYes institutes types body) (short : length body ≤ 34) where
-  row-length : length (candidateIn body .row) ≡ entryCount body
+module _ (form : Form) (institutes types : ℕ) (body : List ℕ) (y : Answers.CandidateYes form institutes types body) (short : length body ≤ 2 + 16 * entryWidth form) where
+  row-length : length (candidateIn form body .row) ≡ entryCount form body
   unfolding candidateIn
-  row-length = length-tabulate 0 (entryCount body) (entryIn body)
+  row-length = length-tabulate 0 (entryCount form body) (entryIn form body)
 
-  entry-at : (k : ℕ) → k < entryCount body → entryAt (candidateIn body) k ≡ entryIn body k
+  entry-at : (k : ℕ) → k < entryCount form body → entryAt (candidateIn form body) k ≡ entryIn form body k
   unfolding candidateIn
-  entry-at k l = tabulate-at (entryCount body) (entryIn body) noEntry k l
+  entry-at k l = tabulate-at (entryCount form body) (entryIn form body) noEntry k l
 
-  code-small : (k : ℕ) → k < entryCount body → codeIn body k ≤ 4
-  code-small k l = ⊎-elim (λ (e : codeIn body k ≡ 0). omega arith) (λ (e : codeIn body k ≡ getD body 0 0). omega (arith, y .own-code)) (y .entry-own k l)
+  code-small : (k : ℕ) → k < entryCount form body → codeIn form body k ≤ 4
+  code-small k l = ⊎-elim (λ (e : codeIn form body k ≡ 0). omega arith) (λ (e : codeIn form body k ≡ getD body 0 0). omega (arith, y .own-code)) (y .entry-own k l)
 
-  same-entry : (k l : ℕ) → k < entryCount body → l < entryCount body → entryIn body k ≡ entryIn body l → (instituteIn body k ≡ instituteIn body l) × (codeIn body k ≡ codeIn body l)
+  same-entry : (k l : ℕ) → k < entryCount form body → l < entryCount form body → entryIn form body k ≡ entryIn form body l → (instituteIn form body k ≡ instituteIn form body l) × (codeIn form body k ≡ codeIn form body l)
   unfolding entryIn
   same-entry k l kl ll e = (
     ap (λ (x : Entry). x .institute) e,
-    sym (code-category (codeIn body k) (code-small k kl)) ∙ (ap (λ (x : Entry). codeOf (x .category)) e ∙ code-category (codeIn body l) (code-small l ll)),
+    sym (code-category (codeIn form body k) (code-small k kl)) ∙ (ap (λ (x : Entry). codeOf (x .category)) e ∙ code-category (codeIn form body l) (code-small l ll)),
   )
 
-  differ : (k l : ℕ) → k < entryCount body → l < entryCount body → entryIn body k ≡ entryIn body l → k ≡ l
+  differ : (k l : ℕ) → k < entryCount form body → l < entryCount form body → entryIn form body k ≡ entryIn form body l → k ≡ l
   differ k l kl ll e =
       let s = same-entry k l kl ll e in
       let no-less : ¬ (k < l) = λ m. y .entries-differ k l m ll (s .0) (s .1) in
       let no-more : ¬ (l < k) = λ m. y .entries-differ l k m kl (sym (s .0)) (sym (s .1)) in
       omega arith
 
-  sound-candidate : SoundCandidate institutes types (candidateIn body)
+  sound-candidate : SoundCandidate institutes types (candidateIn form body)
   unfolding candidateIn entryIn
   sound-candidate = record {
     marks-held = y .marks-held;
-    row-short = omega (arith, row-length);
-    entry-from = λ k l. let m : k < entryCount body = omega (arith, row-length) in rw (entry-at k m) (y .entry-from k m);
-    entry-to = λ k l. let m : k < entryCount body = omega (arith, row-length) in rw (entry-at k m) (y .entry-to k m);
+    row-short = omega (arith, row-length, entries-few form body short);
+    entry-from = λ k l. let m : k < entryCount form body = omega (arith, row-length) in rw (entry-at k m) (y .entry-from k m);
+    entry-to = λ k l. let m : k < entryCount form body = omega (arith, row-length) in rw (entry-at k m) (y .entry-to k m);
     entry-own = λ k l.
-        let m : k < entryCount body = omega (arith, row-length) in
-        rw (entry-at k m) (⊎-elim (λ (e : codeIn body k ≡ 0). inl (ap categoryOf e)) (λ (e : codeIn body k ≡ getD body 0 0). inr (ap categoryOf e)) (y .entry-own k m));
+        let m : k < entryCount form body = omega (arith, row-length) in
+        rw (entry-at k m) (⊎-elim (λ (e : codeIn form body k ≡ 0). inl (ap categoryOf e)) (λ (e : codeIn form body k ≡ getD body 0 0). inr (ap categoryOf e)) (y .entry-own k m));
     entries-differ = λ k l kl ll e.
-        let m : k < entryCount body = omega (arith, row-length) in
-        let n : l < entryCount body = omega (arith, row-length) in
+        let m : k < entryCount form body = omega (arith, row-length) in
+        let n : l < entryCount form body = omega (arith, row-length) in
         differ k l m n (sym (entry-at k m) ∙ (e ∙ entry-at l n));
   }
 
@@ -182,9 +185,9 @@ module _ (h : Head) (body list : List ℕ) (y : Answers.InstituteYes (h .types) 
       }
 
 module _ (file : List ℕ) where
-  pub candidate-at : (i : ℕ) → i < headOf file .candidates → candidateAt (roundOf file) i ≡ candidateIn (bodyOf file (candidateRecord (headOf file) i))
+  pub candidate-at : (i : ℕ) → i < headOf file .candidates → candidateAt (roundOf file) i ≡ candidateIn (headOf file .form) (bodyOf file (candidateRecord (headOf file) i))
   unfolding roundOf
-  candidate-at i l = tabulate-at (headOf file .candidates) (λ i. candidateIn (bodyOf file (candidateRecord (headOf file) i))) noCandidate i l
+  candidate-at i l = tabulate-at (headOf file .candidates) (λ i. candidateIn (headOf file .form) (bodyOf file (candidateRecord (headOf file) i))) noCandidate i l
 
   pub institute-at : (j : ℕ) → j < headOf file .institutes
       → instituteAt (roundOf file) j ≡ instituteFrom (headOf file) (bodyOf file (instituteRecord (headOf file) j)) (bodyOf file (meritRecord (headOf file) j))
@@ -198,7 +201,7 @@ module _ (file : List ℕ) where
 
   pub length-candidates : length (roundOf file .candidates) ≡ headOf file .candidates
   unfolding roundOf
-  length-candidates = length-tabulate 0 (headOf file .candidates) (λ i. candidateIn (bodyOf file (candidateRecord (headOf file) i)))
+  length-candidates = length-tabulate 0 (headOf file .candidates) (λ i. candidateIn (headOf file .form) (bodyOf file (candidateRecord (headOf file) i)))
 
   pub length-institutes : length (roundOf file .institutes) ≡ headOf file .institutes
   unfolding roundOf
@@ -207,14 +210,14 @@ module _ (file : List ℕ) where
 
   module _ (p : Passed file) where
     pub head-fits : InRange (headOf file)
-    head-fits = Answers.head-yes (bodyAt file 0) (Answers.lead-yes file (headOf file) 1 0 (p .head-yes) .body-yes)
+    head-fits = Answers.head-yes (formOf file) (bodyAt file 0) (Answers.lead-yes file (headOf file) 1 0 (p .head-yes) .body-yes)
 
     candidate-sound : (i : ℕ) → i < headOf file .candidates → SoundCandidate (headOf file .institutes) (headOf file .types) (candidateAt (roundOf file) i)
     candidate-sound i l =
         let lead = Answers.lead-yes file (headOf file) 3 (startOf file (candidateRecord (headOf file) i)) (p .candidate-yes i l) in
         let len : ℕ = lengthAt file (startOf file (candidateRecord (headOf file) i)) in
-        let short : len ≤ 34 = Answers.length-candidate (headOf file) len (lead .allowed) .most in
-        rw (candidate-at i l) (sound-candidate (headOf file .institutes) (headOf file .types) _ (Answers.candidate-yes (headOf file) _ (lead .body-yes)) (rw (lead .body-length) short))
+        let short : len ≤ 2 + 16 * entryWidth (headOf file .form) = Answers.length-candidate (headOf file) len (lead .allowed) .most in
+        rw (candidate-at i l) (sound-candidate (headOf file .form) (headOf file .institutes) (headOf file .types) _ (Answers.candidate-yes (headOf file) _ (lead .body-yes)) (rw (lead .body-length) short))
 
     institute-sound : (j : ℕ) → j < headOf file .institutes → SoundInstitute (headOf file .candidates) (headOf file .types) (instituteAt (roundOf file) j)
     institute-sound j l =
@@ -232,7 +235,7 @@ sound file e =
       candidates-least = rw (length-candidates file) (y .candidates-least);
       candidates-most = rw (length-candidates file) (y .candidates-most);
       institutes-least = rw (length-institutes file) (y .institutes-least);
-      institutes-most = rw (length-institutes file) (y .institutes-most);
+      institutes-most = rw (length-institutes file) (omega (arith, y .institutes-most, institutes-few (formOf file)));
       candidate = λ i. rw (length-candidates file, length-institutes file) (λ l. candidate-sound file p i l);
       institute = λ j. rw (length-institutes file, length-candidates file) (λ l. institute-sound file p j l);
     }

@@ -1,0 +1,33 @@
+-- Laws of the two forms of a file, each by both.
+use Prim.Native.Nat.{ℕ, _+_, _*_, _<_, _≤_}
+use mathlib.Core.List.{List}
+use native.Mathlib.Omega.{arith}
+use lib.ListN.{length}
+use Rattle.round.specs.declared.form.Form.{Form}
+use Rattle.round.specs.declared.form.Form.the-variants.{Narrow, Wide}
+use Rattle.round.specs.Form.{institutesMost, entryWidth}
+use Rattle.round.specs.Questions.{entryCount}
+
+-- no form has more than 1,000 institutes
+pub institutes-few : (form : Form) → institutesMost form ≤ 1000
+institutes-few Narrow = omega arith
+institutes-few Wide = omega arith
+
+-- an entry has two bytes or three
+pub width-least : (form : Form) → 2 ≤ entryWidth form
+width-least Narrow = omega arith
+width-least Wide = omega arith
+
+pub width-most : (form : Form) → entryWidth form ≤ 3
+width-most Narrow = omega arith
+width-most Wide = omega arith
+
+-- a body of an allowed length has at most 16 entries
+pub entries-few : (form : Form) (body : List ℕ) → length body ≤ 2 + 16 * entryWidth form → entryCount form body ≤ 16
+entries-few Narrow body l = omega arith
+entries-few Wide body l = omega arith
+
+-- the bytes of an entry stand in the body
+pub entry-inside : (form : Form) (body : List ℕ) (k : ℕ) → k < entryCount form body → 2 + entryWidth form * k + entryWidth form ≤ length body
+entry-inside Narrow body k l = omega arith
+entry-inside Wide body k l = omega arith
