@@ -8,46 +8,56 @@ use Rattle.round.specs.declared.head.Head.{Head as CodeHead}
 use Rattle.round.specs.declared.reader.Reading.{Reading}
 use Rattle.round.specs.declared.reader.Reading.the-variants.{Refused as ReadingRefused}
 use Rattle.round.specs.Outcome.{verdictOf, RoundRead}
+use Rattle.round.specs.declared.form.Form.the-variants.{Narrow, Wide}
+use Rattle.round.specs.Form.{institutesMost}
+use Rattle.round.specs.Records.{formOf}
 use Rattle.round.specs.Reading.{roundOf}
 use Rattle.allotment.specs.declared.Answer.{Answer}
 use Rattle.allotment.specs.declared.Answer.the-variants.{Allotted, Refused}
 use Rattle.offers.specs.Process.{offersMade}
-use Rattle.allotment.specs.Areas.{answerBytes, answerSize}
+use Rattle.allotment.specs.Areas.{sizeFor, answerBytes, answerSize}
 use Rattle.offers.specs.Areas.{workSize}
 use Rattle.allotment.specs.Promise.{Promise}
 use Rattle.offers.specs.Held.{AtHand}
 use Rattle.allotment.specs.Handing.{refusedBy}
-use Rattle.offers.proofs.Sweeps.Known.{candidates-many, institutes-many}
+use Rattle.offers.proofs.Sweeps.Known.{form-is, candidates-many, institutes-many}
 use Rattle.allotment.proofs.Files.Returns.{promise-refused, promise-answer-small, promise-work-small, promise-allotted}
 
 -- a round that was read
 module _ {file : List ℕ} {h : CodeHead} {candidates merits : List ℕ} (hand : AtHand file h candidates merits) where
   -- the sizes that question 14 asks for
-  answer-size : answerSize (roundOf file) ≡ 3 * h .candidates + 12 * h .institutes
-  answer-size = omega (arith, candidates-many hand, institutes-many hand)
+  answer-size : answerSize (formOf file) (roundOf file) ≡ sizeFor (h .form) (h .candidates) (h .institutes)
+  answer-size = rw (candidates-many hand, institutes-many hand, form-is hand)
 
   work-size : workSize (roundOf file) ≡ 8 * h .candidates
   work-size = omega (arith, candidates-many hand)
 
-  pub answer-fits : {size : ℕ} → 3 * h .candidates + 12 * h .institutes ≤ size → answerSize (roundOf file) ≤ size
+  pub answer-fits : {size : ℕ} → sizeFor (h .form) (h .candidates) (h .institutes) ≤ size → answerSize (formOf file) (roundOf file) ≤ size
   answer-fits l = omega (arith, answer-size)
 
   module _ {answer work : List ℕ} where
-    pub answer-small : length answer < 3 * h .candidates + 12 * h .institutes → Promise file answer work (Refused 14 0) answer work
+    pub answer-small : length answer < sizeFor (h .form) (h .candidates) (h .institutes) → Promise file answer work (Refused 14 0) answer work
     answer-small l = promise-answer-small file answer work (hand .passing) (omega (arith, answer-size))
 
     pub work-small : length work < 8 * h .candidates → Promise file answer work (Refused 14 0) answer work
     work-small l = promise-work-small file answer work (hand .passing) (omega (arith, work-size))
 
-    pub all-well : {offers : ℕ} {answerNow workNow : List ℕ} → 3 * h .candidates + 12 * h .institutes ≤ length answer → 8 * h .candidates ≤ length work
+    pub all-well : {offers : ℕ} {answerNow workNow : List ℕ} → sizeFor (h .form) (h .candidates) (h .institutes) ≤ length answer → 8 * h .candidates ≤ length work
         → offers ≡ offersMade (roundOf file)
-        → answerNow ≡ answerBytes (roundOf file) ++ drop (answerSize (roundOf file)) answer
+        → answerNow ≡ answerBytes (formOf file) (roundOf file) ++ drop (answerSize (formOf file) (roundOf file)) answer
         → workNow ≡ replicate (8 * h .candidates) 0 ++ drop (8 * h .candidates) work
         → Promise file answer work (Allotted offers) answerNow workNow
     all-well {offers} {answerNow} {workNow} l m told seen cleared =
         rw told
         (promise-allotted file answer work (hand .passing) (omega (arith, answer-size)) (omega (arith, work-size)) answerNow workNow seen
         (rw work-size cleared))
+
+-- a table with room for the most institutes of the form
+pub narrow-room : {file table : List ℕ} → formOf file ≡ Narrow → length table ≡ 32 → institutesMost (formOf file) ≤ length table
+narrow-room e l = rw e (omega arith)
+
+pub wide-room : {file table : List ℕ} → formOf file ≡ Wide → length table ≡ 1000 → institutesMost (formOf file) ≤ length table
+wide-room e l = rw e (omega arith)
 
 -- a file that was asked about
 module _ {file : List ℕ} {got : Reading} {candidates₀ candidates merits₀ merits : List ℕ} (asked : RoundRead file got candidates₀ candidates merits₀ merits) where

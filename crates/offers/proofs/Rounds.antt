@@ -11,6 +11,7 @@ pub mod Seats
 pub mod Counted
 pub mod Process
 pub mod AtEnd
+pub mod SeatsFew
 pub mod Standing
 pub mod Given
 pub mod Below

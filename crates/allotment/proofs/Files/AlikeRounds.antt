@@ -1,6 +1,6 @@
 -- Two files alike in all but one row: the same head, and rounds that differ in that row only.
 use Prim.Native.Nat.{ℕ, _<_}
-use mathlib.Core.Path.{_≡_, sym, ap, _∙_, subst⁻¹}
+use mathlib.Core.Path.{_≡_, sym, ap, ap₂, _∙_, subst⁻¹}
 use mathlib.Core.Logic.{_≢_}
 use mathlib.Core.List.{List}
 use native.Mathlib.Omega.{arith}
@@ -13,7 +13,7 @@ use Rattle.round.proofs.Sound.{candidate-at, institute-at, length-candidates, l
 use Rattle.offers.specs.Process.{candidateCount}
 use Rattle.offers.proofs.Rounds.TruthfulRound.{AlikeBut}
 use Rattle.allotment.specs.Truthful.{Alike}
-use Rattle.allotment.proofs.Files.Bodies.{same-body}
+use Rattle.allotment.proofs.Files.Bodies.{same-body, same-form}
 
 module _ (file other : List ℕ) (i : ℕ) (alike : Alike file other i) where
   bodies : (k : ℕ) → k < recordCount (headOf file) → k ≢ candidateRecord (headOf file) i → bodyOf file k ≡ bodyOf other k
@@ -21,7 +21,8 @@ module _ (file other : List ℕ) (i : ℕ) (alike : Alike file other i) where
 
   same-head : headOf file ≡ headOf other
   unfolding startOf
-  same-head = ap headIn (bodies 0 (omega arith) (λ e. omega arith))
+  same-head =
+      ap₂ headIn (same-form file other (alike .records 0 (omega arith) (λ e. omega arith))) (bodies 0 (omega arith) (λ e. omega arith))
 
   other-institute : (j : ℕ) → j < headOf file .institutes
       → instituteAt (roundOf other) j ≡ instituteFrom (headOf file) (bodyOf other (instituteRecord (headOf file) j)) (bodyOf other (meritRecord (headOf file) j))
@@ -51,16 +52,16 @@ module _ (file other : List ℕ) (i : ℕ) (alike : Alike file other i) where
   pub inside : i < candidateCount (roundOf file)
   inside = rw (length-candidates file) (alike .candidate)
 
-  other-candidate : (k : ℕ) → k < headOf file .candidates → candidateAt (roundOf other) k ≡ candidateIn (bodyOf other (candidateRecord (headOf file) k))
+  other-candidate : (k : ℕ) → k < headOf file .candidates → candidateAt (roundOf other) k ≡ candidateIn (headOf file .form) (bodyOf other (candidateRecord (headOf file) k))
   other-candidate =
-      subst⁻¹ (λ (h : Head). (k : ℕ) → k < h .candidates → candidateAt (roundOf other) k ≡ candidateIn (bodyOf other (candidateRecord h k)))
+      subst⁻¹ (λ (h : Head). (k : ℕ) → k < h .candidates → candidateAt (roundOf other) k ≡ candidateIn (h .form) (bodyOf other (candidateRecord h k)))
       same-head (candidate-at other)
 
   same-candidate : (k : ℕ) → k < candidateCount (roundOf file) → k ≢ i → candidateAt (roundOf file) k ≡ candidateAt (roundOf other) k
   same-candidate k l d =
       let m : k < headOf file .candidates = omega (arith, length-candidates file) in
       candidate-at file k m
-      ∙ (ap candidateIn (bodies (candidateRecord (headOf file) k) (omega arith) (λ e. d (omega arith))) ∙ sym (other-candidate k m))
+      ∙ (ap (candidateIn (headOf file .form)) (bodies (candidateRecord (headOf file) k) (omega arith) (λ e. d (omega arith))) ∙ sym (other-candidate k m))
 
   same-marks : candidateAt (roundOf file) i .marks ≡ candidateAt (roundOf other) i .marks
   unfolding candidateIn

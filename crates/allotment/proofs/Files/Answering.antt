@@ -1,26 +1,30 @@
 -- The answer area after the seats, the closing places and the types are put in, where arrays hold the list of the round and the types used.
-use Prim.Native.Nat.{ℕ, _+_, _*_, _≤_}
+use Prim.Native.Nat.{ℕ, _+_, _*_, _≤_, _<_}
 use mathlib.Core.Path.{_≡_, refl, sym, ap, _∙_}
 use mathlib.Core.List.{List, _++_}
 use native.Mathlib.Omega.{arith}
-use lib.ListN.{length, drop, length-append}
+use lib.ListN.{length, getD, drop, length-append}
 use lib.Seq.{sets, ext-getD}
 use Rattle.round.specs.Lists.{tabulate, joined}
+use Rattle.round.specs.declared.form.Form.{Form}
+use Rattle.round.specs.Form.{seatWidth}
 use Rattle.round.specs.Round.{Round}
 use Rattle.round.specs.declared.head.Head.{Head as CodeHead}
-use Rattle.round.specs.Records.{Head, headOf}
+use Rattle.round.specs.Records.{Head, formOf, headOf}
 use Rattle.round.specs.Reading.{roundOf}
 use Rattle.round.proofs.Words.{length-tabulate}
 use Rattle.round.proofs.Joined.{sets-append, sets-front}
-use Rattle.round.proofs.Sound.{sound, length-institutes}
+use Rattle.round.proofs.Passed.{passed}
+use Rattle.round.proofs.Sound.{sound, head-fits, length-institutes}
 use Rattle.offers.specs.Process.{Seat, noSeat, candidateCount, instituteCount, seats}
 use Rattle.allotment.specs.Areas.{closingBytes, answerBytes, answerSize}
 use Rattle.offers.specs.Held.{HeldIn}
-use Rattle.allotment.specs.Writing.{seatHeld, seatsHeld, heldBytes, AnswerKnown}
+use Rattle.allotment.specs.Writing.{seatHeld, seatsHeld, heldBytes, HoldersFew, AnswerKnown}
 use Rattle.offers.proofs.Rounds.Bounds.{list-length}
 use Rattle.offers.proofs.Rounds.AccountRound.{types-length}
+use Rattle.offers.proofs.Rounds.SeatsFew.{seat-few}
 use Rattle.allotment.proofs.Files.Pieces.{length-pieces}
-use Rattle.allotment.proofs.Files.AreaSeats.{length-closing, length-answer}
+use Rattle.allotment.proofs.Files.AreaSeats.{length-seat, length-closing, size-parts, length-answer}
 use Rattle.allotment.proofs.Files.Closing.{held-at}
 use Rattle.allotment.proofs.Files.Putting.{heldPieces}
 
@@ -32,9 +36,9 @@ held-one list holders steps held =
     ext-getD noSeat (seatsHeld holders steps) list (size ∙ held .holders-many)
     (λ i l. held-at holders steps i (omega arith) ∙ sym (held .seat i (omega (arith, held .holders-many))))
 
-length-held : (holders steps : List ℕ) → length (heldBytes holders steps) ≡ 2 * length holders
+length-held : (form : Form) (holders steps : List ℕ) → length (heldBytes form holders steps) ≡ seatWidth form * length holders
 unfolding heldBytes
-length-held holders steps = length-pieces 2 (heldPieces holders steps) (λ i. refl) (length holders)
+length-held form holders steps = length-pieces (seatWidth form) (heldPieces form holders steps) (λ i. length-seat form _) (length holders)
 
 -- what the answer area is written from
 module _ {file : List ℕ} {h : CodeHead} {merits holders steps types : List ℕ} (known : AnswerKnown file h merits holders steps types) where
@@ -56,8 +60,19 @@ module _ {file : List ℕ} {h : CodeHead} {merits holders steps types : List ℕ
   pub holders-few : length holders ≤ 512
   holders-few = omega (arith, many, sound file (known .closing .accepted) .candidates-most)
 
-  pub institutes-few : h .institutes ≤ 32
+  pub institutes-few : h .institutes ≤ 1000
   institutes-few = omega (arith, institutes-many, sound file (known .closing .accepted) .institutes-most)
+
+  form-known : formOf file ≡ h .form
+  form-known = sym (ap (λ (h : Head). h .form) (known .head))
+
+  -- each holder is 0 or an institute that a file of the form may have
+  pub holders-small : HoldersFew (h .form) holders
+  holders-small i l =
+      let inside : i < candidateCount r = omega (arith, many) in
+      let at : getD (seats r) i noSeat .institute ≡ getD holders i 0 = ap (λ (s : Seat). s .institute) (known .closing .list .seat i (omega (arith, many, list-length r))) in
+      let range = head-fits file (passed file (known .closing .accepted)) .institutes-most in
+      rw (← form-known) (omega (arith, at, seat-few (sound file (known .closing .accepted)) i inside, length-institutes file, range))
 
   types-many : length types ≡ candidateCount r
   types-many = ap length (known .closing .typed) ∙ types-length r
@@ -65,32 +80,39 @@ module _ {file : List ℕ} {h : CodeHead} {merits holders steps types : List ℕ
   length-closings : length (joined (tabulate (h .institutes) (closingBytes r))) ≡ 12 * h .institutes
   length-closings = length-pieces 12 (closingBytes r) (length-closing r) (h .institutes)
 
-  -- there is room for the seats, behind them for the closing places, and behind these for the types
-  pub seats-room : {size : ℕ} → answerSize r ≤ size → 2 * length holders ≤ size
-  seats-room l = omega (arith, many)
+  -- the seats, behind them the closing places, and behind these the types
+  size-known : answerSize (formOf file) r ≡ seatWidth (h .form) * length holders + (12 * h .institutes + length types)
+  size-known = rw (form-known, ← many, ← institutes-many, types-many) (rw (← many) (size-parts (h .form) (length holders) (h .institutes)))
 
-  pub closings-room : {size after : ℕ} → after ≡ size → answerSize r ≤ size → 2 * length holders + 12 * h .institutes ≤ after
-  closings-room e l = omega (arith, many, institutes-many)
+  -- there is room for each
+  pub seats-room : {size : ℕ} → answerSize (formOf file) r ≤ size → seatWidth (h .form) * length holders ≤ size
+  seats-room l = omega (arith, size-known)
 
-  pub types-room : {size mid after : ℕ} → mid ≡ size → after ≡ mid → answerSize r ≤ size → 2 * length holders + 12 * h .institutes + length types ≤ after
-  types-room e f l = omega (arith, many, institutes-many, types-many)
+  pub closings-room : {size after : ℕ} → after ≡ size → answerSize (formOf file) r ≤ size → seatWidth (h .form) * length holders + 12 * h .institutes ≤ after
+  closings-room e l = omega (arith, size-known)
+
+  pub types-room : {size mid after : ℕ} → mid ≡ size → after ≡ mid → answerSize (formOf file) r ≤ size
+      → seatWidth (h .form) * length holders + 12 * h .institutes + length types ≤ after
+  types-room e f l = omega (arith, size-known)
 
   -- the three parts together
-  parts : heldBytes holders steps ++ joined (tabulate (h .institutes) (closingBytes r)) ++ types ≡ answerBytes r
+  parts : heldBytes (h .form) holders steps ++ joined (tabulate (h .institutes) (closingBytes r)) ++ types ≡ answerBytes (formOf file) r
   unfolding heldBytes answerBytes
-  parts = rw (held-one (seats r) holders steps (known .closing .list), many, institutes-many, known .closing .typed)
+  parts = rw (form-known, held-one (seats r) holders steps (known .closing .list), many, institutes-many, known .closing .typed)
 
-  pub answer-put : (area : List ℕ) {seated closed now : List ℕ} → answerSize r ≤ length area
-      → seated ≡ sets area 0 (heldBytes holders steps)
-      → closed ≡ sets seated (2 * length holders) (joined (tabulate (h .institutes) (closingBytes r)))
-      → now ≡ sets closed (2 * length holders + 12 * h .institutes) types
-      → now ≡ answerBytes r ++ drop (answerSize r) area
-  answer-put area {seated} {closed} {now} room first second third =
+  pub answer-put : (area : List ℕ) {seated closed now : List ℕ} {behind-seats : ℕ} → answerSize (formOf file) r ≤ length area
+      → behind-seats ≡ seatWidth (h .form) * length holders
+      → seated ≡ sets area 0 (heldBytes (h .form) holders steps)
+      → closed ≡ sets seated behind-seats (joined (tabulate (h .institutes) (closingBytes r)))
+      → now ≡ sets closed (behind-seats + 12 * h .institutes) types
+      → now ≡ answerBytes (formOf file) r ++ drop (answerSize (formOf file) r) area
+  answer-put area {seated} {closed} {now} {behind-seats} room size first second third =
       let closings : List ℕ = joined (tabulate (h .institutes) (closingBytes r)) in
-      let at : 0 + length (heldBytes holders steps) ≡ 2 * length holders = omega (arith, length-held holders steps) in
-      let behind : 0 + length (heldBytes holders steps ++ closings) ≡ 2 * length holders + 12 * h .institutes =
-      omega (arith, length-append (heldBytes holders steps) closings, length-held holders steps, length-closings) in
-      let two : closed ≡ sets area 0 (heldBytes holders steps ++ closings) = second ∙ rw (first, ← at) (sets-append area 0 (heldBytes holders steps) _) in
+      let held : List ℕ = heldBytes (h .form) holders steps in
+      let at : 0 + length held ≡ behind-seats = omega (arith, size, length-held (h .form) holders steps) in
+      let behind : 0 + length (held ++ closings) ≡ behind-seats + 12 * h .institutes =
+      omega (arith, size, length-append held closings, length-held (h .form) holders steps, length-closings) in
+      let two : closed ≡ sets area 0 (held ++ closings) = second ∙ rw (first, ← at) (sets-append area 0 held _) in
       third
-      ∙ (rw (two, ← behind) (sets-append area 0 (heldBytes holders steps ++ closings) types ∙ ap (λ (bytes : List ℕ). sets area 0 bytes) parts)
-      ∙ (sets-front area (answerBytes r) (omega (arith, length-answer r)) ∙ rw (length-answer r)))
+      ∙ (rw (two, ← behind) (sets-append area 0 (held ++ closings) types ∙ ap (λ (bytes : List ℕ). sets area 0 bytes) parts)
+      ∙ (sets-front area (answerBytes (formOf file) r) (omega (arith, length-answer (formOf file) r)) ∙ rw (length-answer (formOf file) r)))

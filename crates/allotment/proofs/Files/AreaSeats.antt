@@ -10,38 +10,77 @@ use lib.Seq.{ext-getD, getD-append-add}
 use Rattle.round.specs.Lists.{tabulate, joined}
 use Rattle.round.specs.Round.{Round}
 use Rattle.round.specs.Records.{word}
+use Rattle.round.specs.declared.form.Form.{Form}
+use Rattle.round.specs.declared.form.Form.the-variants.{Narrow, Wide}
+use Rattle.round.specs.Form.{seatWidth}
+use Rattle.round.specs.Sound.{Sound}
 use Rattle.round.proofs.Words.{length-tabulate, tabulate-at}
-use Rattle.offers.specs.Process.{noSeat, candidateCount, instituteCount, seats, typesUsed}
-use Rattle.allotment.specs.Areas.{wordBytes, closingPlaces, closingBytes, answerBytes, answerSize, typeStanding}
-use Rattle.offers.specs.Areas.{seatBytes, seatIn, seatsIn}
+use Rattle.offers.specs.Process.{Seat, noSeat, candidateCount, instituteCount, seats, typesUsed}
+use Rattle.allotment.specs.Areas.{closingPlaces, closingBytes, sizeFor, answerBytes, answerSize, typeStanding}
+use Rattle.offers.specs.Areas.{wordBytes, seatBytes, seatIn, seatsIn}
 use Rattle.offers.proofs.Rounds.Bounds.{list-length}
 use Rattle.offers.proofs.Rounds.AccountRound.{types-length}
+use Rattle.offers.proofs.Rounds.SeatsFew.{seat-few}
 use Rattle.allotment.proofs.Files.Pieces.{length-pieces, getD-pieces}
 
-module _ (r : Round) where
+-- a seat has as many bytes in either form as the form says
+pub length-seat : (form : Form) (s : Seat) → length (seatBytes form s) ≡ seatWidth form
+length-seat Narrow s = refl
+length-seat Wide s = refl
+
+-- byte k of seat i lies within the bytes of n seats
+within-seats : (form : Form) (n i k : ℕ) → i < n → k < seatWidth form → seatWidth form * i + k < seatWidth form * n
+within-seats Narrow n i k l m = omega arith
+within-seats Wide n i k l m = omega arith
+
+-- the answer has the seats, the closing places and the types
+pub size-parts : (form : Form) (n m : ℕ) → sizeFor form n m ≡ seatWidth form * n + (12 * m + n)
+size-parts Narrow n m = omega arith
+size-parts Wide n m = omega arith
+
+-- the seat whose bytes stand at the place of candidate i
+seat-read : (form : Form) (s : Seat) (area : List ℕ) (i : ℕ) → s .institute < 65536
+    → ((k : ℕ) → k < seatWidth form → getD area (seatWidth form * i + k) 0 ≡ getD (seatBytes form s) k 0) → seatIn form area i ≡ s
+unfolding seatIn
+seat-read Narrow s area i few at =
+    let first : getD area (2 * i) 0 ≡ s .institute = rw add-zero at (at 0 (omega arith)) in
+    let second : getD area (2 * i + 1) 0 ≡ s .step = at 1 (omega arith) in
+    rw (first, second)
+seat-read Wide s area i few at =
+    let first : getD area (4 * i) 0 ≡ s .institute % 256 = rw add-zero at (at 0 (omega arith)) in
+    let second : getD area (suc (4 * i)) 0 ≡ s .institute / 256 % 256 = rw add-one at (at 1 (omega arith)) in
+    let third : getD area (4 * i + 2) 0 ≡ s .step = at 2 (omega arith) in
+    let fourth : getD area (4 * i + 3) 0 ≡ 0 = at 3 (omega arith) in
+    let behind : suc (4 * i + 2) ≡ 4 * i + 3 = omega arith in
+    let last : getD area (suc (4 * i + 2)) 0 ≡ 0 = rw behind fourth in
+    let institute : word area (4 * i) ≡ s .institute = omega arith in
+    let step : word area (4 * i + 2) ≡ s .step = omega arith in
+    rw (institute, step)
+
+pub length-closing : (r : Round) (j : ℕ) → length (closingBytes r j) ≡ 12
+unfolding closingBytes
+length-closing r j = length-pieces 2 (λ k. wordBytes (getD (closingPlaces r j) k 0)) (λ k. refl) 6
+
+module _ (form : Form) (r : Round) where
   seatPart : List ℕ
-  seatPart = joined (tabulate (candidateCount r) (λ i. seatBytes (getD (seats r) i noSeat)))
+  seatPart = joined (tabulate (candidateCount r) (λ i. seatBytes form (getD (seats r) i noSeat)))
 
   closingPart : List ℕ
   closingPart = joined (tabulate (instituteCount r) (closingBytes r))
 
-  answer-parts : answerBytes r ≡ seatPart ++ (closingPart ++ typesUsed r)
+  answer-parts : answerBytes form r ≡ seatPart ++ (closingPart ++ typesUsed r)
   unfolding answerBytes seatPart closingPart
   answer-parts = append-assoc seatPart closingPart (typesUsed r)
 
-  length-seatPart : length seatPart ≡ 2 * candidateCount r
+  length-seatPart : length seatPart ≡ seatWidth form * candidateCount r
   unfolding seatPart
-  length-seatPart = length-pieces 2 (λ i. seatBytes (getD (seats r) i noSeat)) (λ i. refl) (candidateCount r)
-
-  pub length-closing : (j : ℕ) → length (closingBytes r j) ≡ 12
-  unfolding closingBytes
-  length-closing j = length-pieces 2 (λ k. wordBytes (getD (closingPlaces r j) k 0)) (λ k. refl) 6
+  length-seatPart = length-pieces (seatWidth form) (λ i. seatBytes form (getD (seats r) i noSeat)) (λ i. length-seat form _) (candidateCount r)
 
   length-closingPart : length closingPart ≡ 12 * instituteCount r
   unfolding closingPart
-  length-closingPart = length-pieces 12 (closingBytes r) length-closing (instituteCount r)
+  length-closingPart = length-pieces 12 (closingBytes r) (length-closing r) (instituteCount r)
 
-  pub length-answer : length (answerBytes r) ≡ answerSize r
+  pub length-answer : length (answerBytes form r) ≡ answerSize form r
   length-answer =
       rw answer-parts
       (omega (
@@ -51,71 +90,66 @@ module _ (r : Round) where
         length-seatPart,
         length-closingPart,
         types-length r,
+        size-parts form (candidateCount r) (instituteCount r),
       ))
 
-  seat-byte : (i k : ℕ) → i < candidateCount r → k < 2 → getD (answerBytes r) (2 * i + k) 0 ≡ getD (seatBytes (getD (seats r) i noSeat)) k 0
+  seat-byte : (rest : List ℕ) (i k : ℕ) → i < candidateCount r → k < seatWidth form
+      → getD (answerBytes form r ++ rest) (seatWidth form * i + k) 0 ≡ getD (seatBytes form (getD (seats r) i noSeat)) k 0
   unfolding seatPart
-  seat-byte i k l m =
-      rw answer-parts
-      (List·getD-append seatPart _ 0 (2 * i + k) (omega (arith, length-seatPart))
-      ∙ getD-pieces 2 (λ i. seatBytes (getD (seats r) i noSeat)) (λ i. refl) (candidateCount r) i k l m)
-
-  -- the two bytes of candidate i's seat
-  answer-institute : (i at : ℕ) → i < candidateCount r → at ≡ 2 * i → getD (answerBytes r) at 0 ≡ getD (seats r) i noSeat .institute
-  answer-institute i at l e = let q : at ≡ 2 * i + 0 = omega arith in rw q (seat-byte i 0 l (omega arith))
-
-  answer-step : (i at : ℕ) → i < candidateCount r → at ≡ 2 * i + 1 → getD (answerBytes r) at 0 ≡ getD (seats r) i noSeat .step
-  answer-step i at l e = rw e (seat-byte i 1 l (omega arith))
-
-  -- the seat that stands in an area that starts with the answer bytes
-  pub seat-stands : (rest : List ℕ) (i : ℕ) → i < candidateCount r → seatIn (answerBytes r ++ rest) i ≡ getD (seats r) i noSeat
-  unfolding seatIn
-  seat-stands rest i l =
-      let first : getD (answerBytes r ++ rest) (2 * i) 0 ≡ getD (seats r) i noSeat .institute =
-      List·getD-append (answerBytes r) rest 0 (2 * i) (omega (arith, length-answer)) ∙ answer-institute i (2 * i) l refl in
-      let second : getD (answerBytes r ++ rest) (2 * i + 1) 0 ≡ getD (seats r) i noSeat .step =
-      List·getD-append (answerBytes r) rest 0 (2 * i + 1) (omega (arith, length-answer)) ∙ answer-step i (2 * i + 1) l refl in
-      rw (first, second)
-
-  -- and so the whole list
-  pub seats-stand : (rest : List ℕ) → seatsIn (candidateCount r) (answerBytes r ++ rest) ≡ seats r
-  unfolding seatsIn
-  seats-stand rest =
-      let size = length-tabulate 0 (candidateCount r) (seatIn (answerBytes r ++ rest)) in
-      ext-getD noSeat _ (seats r) (size ∙ sym (list-length r))
-      (λ i l.
-      let m : i < candidateCount r = omega arith in
-      tabulate-at (candidateCount r) (seatIn (answerBytes r ++ rest)) noSeat i m ∙ seat-stands rest i m)
+  seat-byte rest i k l m =
+      let inside : seatWidth form * i + k < seatWidth form * candidateCount r = within-seats form (candidateCount r) i k l m in
+      List·getD-append (answerBytes form r) rest 0 (seatWidth form * i + k) (omega (arith, length-answer, size-parts form (candidateCount r) (instituteCount r)))
+      ∙ rw answer-parts
+      (List·getD-append seatPart _ 0 (seatWidth form * i + k) (omega (arith, length-seatPart))
+      ∙ getD-pieces (seatWidth form) (λ i. seatBytes form (getD (seats r) i noSeat)) (λ i. length-seat form _) (candidateCount r) i k l m)
 
   -- byte b of the closing place of step k, from 0, at institute j
   closing-byte : (j k b : ℕ) → j < instituteCount r → k < 6 → b < 2
-      → getD (answerBytes r) (2 * candidateCount r + 12 * j + 2 * k + b) 0 ≡ getD (wordBytes (getD (closingPlaces r j) k 0)) b 0
+      → getD (answerBytes form r) (seatWidth form * candidateCount r + 12 * j + 2 * k + b) 0 ≡ getD (wordBytes (getD (closingPlaces r j) k 0)) b 0
   unfolding closingPart closingBytes
   closing-byte j k b l m o =
-      let at : 2 * candidateCount r + 12 * j + 2 * k + b ≡ length seatPart + (12 * j + (2 * k + b)) = omega (arith, length-seatPart) in
+      let at : seatWidth form * candidateCount r + 12 * j + 2 * k + b ≡ length seatPart + (12 * j + (2 * k + b)) = omega (arith, length-seatPart) in
       rw (answer-parts, at)
       (getD-append-add seatPart _ (12 * j + (2 * k + b)) 0
       ∙ (List·getD-append closingPart (typesUsed r) 0 (12 * j + (2 * k + b)) (omega (arith, length-closingPart))
-      ∙ getD-pieces 12 (closingBytes r) length-closing (instituteCount r) j (2 * k + b) l (omega arith)
+      ∙ getD-pieces 12 (closingBytes r) (length-closing r) (instituteCount r) j (2 * k + b) l (omega arith)
       ∙ getD-pieces 2 (λ k. wordBytes (getD (closingPlaces r j) k 0)) (λ k. refl) 6 k b m o))
 
   -- the closing place that stands in an area that starts with the answer bytes
   pub closing-stands : (rest : List ℕ) (j k : ℕ) → j < instituteCount r → k < 6 → getD (closingPlaces r j) k 0 < 65536
-      → word (answerBytes r ++ rest) (2 * candidateCount r + 12 * j + 2 * k) ≡ getD (closingPlaces r j) k 0
+      → word (answerBytes form r ++ rest) (seatWidth form * candidateCount r + 12 * j + 2 * k) ≡ getD (closingPlaces r j) k 0
   closing-stands rest j k l m few =
-      let at : ℕ = 2 * candidateCount r + 12 * j + 2 * k in
-      let inside : at + 1 < length (answerBytes r) = omega (arith, length-answer) in
-      let first : getD (answerBytes r ++ rest) at 0 ≡ getD (closingPlaces r j) k 0 % 256 =
-      List·getD-append (answerBytes r) rest 0 at (omega arith) ∙ (rw add-zero at (closing-byte j k 0 l m (omega arith))) in
-      let second : getD (answerBytes r ++ rest) (suc at) 0 ≡ getD (closingPlaces r j) k 0 / 256 % 256 =
-      List·getD-append (answerBytes r) rest 0 (suc at) (omega arith) ∙ (rw add-one at (closing-byte j k 1 l m (omega arith))) in
+      let at : ℕ = seatWidth form * candidateCount r + 12 * j + 2 * k in
+      let inside : at + 1 < length (answerBytes form r) = omega (arith, length-answer, size-parts form (candidateCount r) (instituteCount r)) in
+      let first : getD (answerBytes form r ++ rest) at 0 ≡ getD (closingPlaces r j) k 0 % 256 =
+      List·getD-append (answerBytes form r) rest 0 at (omega arith) ∙ (rw add-zero at (closing-byte j k 0 l m (omega arith))) in
+      let second : getD (answerBytes form r ++ rest) (suc at) 0 ≡ getD (closingPlaces r j) k 0 / 256 % 256 =
+      List·getD-append (answerBytes form r) rest 0 (suc at) (omega arith) ∙ (rw add-one at (closing-byte j k 1 l m (omega arith))) in
       omega arith
 
   -- the type that stands in an area that starts with the answer bytes
   pub type-stands : (rest : List ℕ) (i : ℕ) → i < candidateCount r
-      → typeStanding (candidateCount r) (instituteCount r) (answerBytes r ++ rest) i ≡ getD (typesUsed r) i 0
+      → typeStanding form (candidateCount r) (instituteCount r) (answerBytes form r ++ rest) i ≡ getD (typesUsed r) i 0
   type-stands rest i l =
-      let at : 2 * candidateCount r + 12 * instituteCount r + i ≡ length seatPart + (length closingPart + i) = omega (arith, length-seatPart, length-closingPart) in
-      List·getD-append (answerBytes r) rest 0 (2 * candidateCount r + 12 * instituteCount r + i) (omega (arith, length-answer))
+      let at : seatWidth form * candidateCount r + 12 * instituteCount r + i ≡ length seatPart + (length closingPart + i) = omega (arith, length-seatPart, length-closingPart) in
+      List·getD-append (answerBytes form r) rest 0 (seatWidth form * candidateCount r + 12 * instituteCount r + i)
+      (omega (arith, length-answer, size-parts form (candidateCount r) (instituteCount r)))
       ∙ rw (answer-parts, at)
       (getD-append-add seatPart (closingPart ++ typesUsed r) (length closingPart + i) 0 ∙ getD-append-add closingPart (typesUsed r) i 0)
+
+  module _ {types : ℕ} (sound : Sound types r) where
+    -- the seat that stands in an area that starts with the answer bytes
+    pub seat-stands : (rest : List ℕ) (i : ℕ) → i < candidateCount r → seatIn form (answerBytes form r ++ rest) i ≡ getD (seats r) i noSeat
+    seat-stands rest i l =
+        seat-read form (getD (seats r) i noSeat) (answerBytes form r ++ rest) i (omega (arith, seat-few sound i l, sound .institutes-most))
+        (λ k m. seat-byte rest i k l m)
+
+    -- and so the whole list
+    pub seats-stand : (rest : List ℕ) → seatsIn form (candidateCount r) (answerBytes form r ++ rest) ≡ seats r
+    unfolding seatsIn
+    seats-stand rest =
+        let size = length-tabulate 0 (candidateCount r) (seatIn form (answerBytes form r ++ rest)) in
+        ext-getD noSeat _ (seats r) (size ∙ sym (list-length r))
+        (λ i l.
+        let m : i < candidateCount r = omega arith in
+        tabulate-at (candidateCount r) (seatIn form (answerBytes form r ++ rest)) noSeat i m ∙ seat-stands rest i m)

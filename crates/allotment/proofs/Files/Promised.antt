@@ -5,10 +5,8 @@ use mathlib.Core.Path.{_≡_, sym, ap, _∙_}
 use mathlib.Core.List.{List}
 use native.Mathlib.Omega.{arith}
 use lib.ListN.{length}
-use Rattle.round.specs.Records.{headOf}
+use Rattle.round.specs.Records.{formOf}
 use Rattle.round.specs.Reading.{roundOf}
-use Rattle.round.specs.Sound.{Sound}
-use Rattle.round.proofs.Sound.{sound}
 use Rattle.offers.specs.Process.{Seat, candidateCount}
 use Rattle.offers.specs.Stable.{Stable}
 use Rattle.offers.proofs.Rounds.StableRound.{round-stable}
@@ -23,12 +21,8 @@ use Rattle.allotment.specs.Outcome.{outcomeOf, outcome, answerAfter, wor
 use Rattle.allotment.specs.Truthful.{Truthful}
 use Rattle.allotment.specs.Types.{Published}
 use Rattle.allotment.specs.Promise.{Promise}
-use Rattle.allotment.proofs.Files.Accepting.{accepted-passes, seat-after, seats-after, type-after}
+use Rattle.allotment.proofs.Files.Accepting.{accepted-sound, seat-after, seats-after, type-after}
 use Rattle.allotment.proofs.Files.AlikeRounds.{same-count, inside, alike-rounds}
-
--- the round of an accepted file is sound
-accepted-sound : (file answer work : List ℕ) → Accepted file answer work → Sound (headOf file .types) (roundOf file)
-accepted-sound file answer work accepted = sound file (accepted-passes file answer work accepted)
 
 truthful : (file answer work : List ℕ) → Accepted file answer work → Truthful file (answerAfter file answer work)
 unfolding Truthful
@@ -40,10 +34,10 @@ truthful file answer work accepted other otherAnswer otherWork otherAccepted i a
     (alike-rounds file other i alike))
 
 stable : (file answer work : List ℕ) → Accepted file answer work
-    → Stable (roundOf file) (seatsIn (candidateCount (roundOf file)) (answerAfter file answer work))
+    → Stable (roundOf file) (seatsIn (formOf file) (candidateCount (roundOf file)) (answerAfter file answer work))
 stable file answer work accepted = rw (seats-after file answer work accepted) (round-stable (accepted-sound file answer work accepted))
 
-published : (file answer work : List ℕ) → Accepted file answer work → Published (roundOf file) (answerAfter file answer work)
+published : (file answer work : List ℕ) → Accepted file answer work → Published (formOf file) (roundOf file) (answerAfter file answer work)
 published file answer work accepted =
     let sound = accepted-sound file answer work accepted in
     record {

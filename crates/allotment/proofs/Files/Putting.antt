@@ -8,15 +8,17 @@ use native.Mathlib.Numerals.{add-one}
 use lib.ListN.{length, getD, set, take}
 use lib.Seq.{sets, take-suc, take-all, length-take-le}
 use Rattle.round.specs.Lists.{tabulate, joined}
+use Rattle.round.specs.declared.form.Form.{Form}
+use Rattle.round.specs.Form.{seatWidth}
 use Rattle.round.specs.Round.{Round}
 use Rattle.round.proofs.Words.{reached}
 use Rattle.round.proofs.Joined.{sets-append, joined-more}
 use Rattle.offers.specs.Process.{noSeat}
-use Rattle.allotment.specs.Areas.{wordBytes, closingPlaces, closingBytes}
-use Rattle.offers.specs.Areas.{seatBytes}
+use Rattle.allotment.specs.Areas.{closingPlaces, closingBytes}
+use Rattle.offers.specs.Areas.{wordBytes, seatBytes}
 use Rattle.allotment.specs.Writing.{seatHeld, seatsHeld, heldBytes}
 use Rattle.allotment.proofs.Files.Pieces.{length-pieces}
-use Rattle.allotment.proofs.Files.AreaSeats.{length-closing}
+use Rattle.allotment.proofs.Files.AreaSeats.{length-seat, length-closing}
 use Rattle.allotment.proofs.Files.Closing.{held-at}
 
 -- one piece more
@@ -26,25 +28,26 @@ pieces-more w f wide area at n {now} e =
     rw (e, ← length-pieces w f wide n, add-one, joined-more) (sets-append area at (joined (tabulate n f)) (f n))
 
 -- the bytes of the seats that two arrays hold, seat by seat
-abbrev pub heldPieces : List ℕ → List ℕ → ℕ → List ℕ
-heldPieces holders steps i = seatBytes (getD (seatsHeld holders steps) i noSeat)
+abbrev pub heldPieces : Form → List ℕ → List ℕ → ℕ → List ℕ
+heldPieces form holders steps i = seatBytes form (getD (seatsHeld holders steps) i noSeat)
 
 -- one seat more
-pub seat-more : (holders steps area : List ℕ) (i : ℕ) {now : List ℕ} → i < length holders
-    → now ≡ sets area 0 (joined (tabulate i (heldPieces holders steps)))
-    → set (set now (2 * i) (getD holders i 0)) (2 * i + 1) (getD steps i 0) ≡ sets area 0 (joined (tabulate (i + 1) (heldPieces holders steps)))
-seat-more holders steps area i {now} l e =
-    let more : sets now (0 + 2 * i) (heldPieces holders steps i) ≡ sets area 0 (joined (tabulate (i + 1) (heldPieces holders steps))) =
-    pieces-more 2 (heldPieces holders steps) (λ i. refl) area 0 i e in
-    let here : sets now (2 * i) (seatBytes (seatHeld holders steps i)) ≡ sets area 0 (joined (tabulate (i + 1) (heldPieces holders steps))) =
+pub seat-more : (form : Form) (holders steps area : List ℕ) (i : ℕ) {before now : List ℕ} {institute step : ℕ} → i < length holders
+    → before ≡ sets area 0 (joined (tabulate i (heldPieces form holders steps))) → institute ≡ getD holders i 0 → step ≡ getD steps i 0
+    → now ≡ sets before (seatWidth form * i) (seatBytes form (record { institute = institute; step = step }))
+    → now ≡ sets area 0 (joined (tabulate (i + 1) (heldPieces form holders steps)))
+seat-more form holders steps area i {before} {now} {institute} {step} l e held at put =
+    let more : sets before (0 + seatWidth form * i) (heldPieces form holders steps i) ≡ sets area 0 (joined (tabulate (i + 1) (heldPieces form holders steps))) =
+    pieces-more (seatWidth form) (heldPieces form holders steps) (λ i. length-seat form _) area 0 i e in
+    let here : sets before (seatWidth form * i) (seatBytes form (seatHeld holders steps i)) ≡ sets area 0 (joined (tabulate (i + 1) (heldPieces form holders steps))) =
     rw (zero-add, held-at holders steps i l) at more in
-    rw (add-one (2 * i)) here
+    put ∙ rw (held, at) here
 
 -- all seats
-pub seats-put : (holders steps area : List ℕ) {i : ℕ} {now : List ℕ} → i ≤ length holders → length holders ≤ i
-    → now ≡ sets area 0 (joined (tabulate i (heldPieces holders steps))) → now ≡ sets area 0 (heldBytes holders steps)
+pub seats-put : (form : Form) (holders steps area : List ℕ) {i : ℕ} {now : List ℕ} → i ≤ length holders → length holders ≤ i
+    → now ≡ sets area 0 (joined (tabulate i (heldPieces form holders steps))) → now ≡ sets area 0 (heldBytes form holders steps)
 unfolding heldBytes
-seats-put holders steps area l m e = reached (λ n. sets area 0 (joined (tabulate n (heldPieces holders steps)))) l m (sym e)
+seats-put form holders steps area l m e = reached (λ n. sets area 0 (joined (tabulate n (heldPieces form holders steps)))) l m (sym e)
 
 -- the bytes of an institute's closing places, step by step
 abbrev pub closingPieces : Round → ℕ → ℕ → List ℕ

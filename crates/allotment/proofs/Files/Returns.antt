@@ -5,6 +5,7 @@ use mathlib.Core.List.{List, _++_}
 use lib.ListN.{length, drop, replicate}
 use Rattle.round.specs.Refusal as Refusal
 use Rattle.round.specs.Refusal.{verdict, passes}
+use Rattle.round.specs.Records.{formOf}
 use Rattle.round.specs.Reading.{roundOf}
 use Rattle.allotment.specs.declared.Answer.the-variants.{Allotted, Refused}
 use Rattle.offers.specs.Process.{offersMade}
@@ -26,15 +27,15 @@ module _ (file answer work : List ℕ) where
   pub promise-refused : (number offset : ℕ) → verdict file ≡ Refusal.refused number offset → Promise file answer work (Refused number offset) answer work
   promise-refused number offset e = refuses number offset (outcome-refused file (length answer) (length work) number offset e)
 
-  pub promise-answer-small : verdict file ≡ passes → length answer < answerSize (roundOf file) → Promise file answer work (Refused 14 0) answer work
+  pub promise-answer-small : verdict file ≡ passes → length answer < answerSize (formOf file) (roundOf file) → Promise file answer work (Refused 14 0) answer work
   promise-answer-small e l = refuses 14 0 (outcome-answer-small file (length answer) (length work) e l)
 
   pub promise-work-small : verdict file ≡ passes → length work < workSize (roundOf file) → Promise file answer work (Refused 14 0) answer work
   promise-work-small e l = refuses 14 0 (outcome-work-small file (length answer) (length work) e l)
 
-  pub promise-allotted : verdict file ≡ passes → answerSize (roundOf file) ≤ length answer → workSize (roundOf file) ≤ length work
+  pub promise-allotted : verdict file ≡ passes → answerSize (formOf file) (roundOf file) ≤ length answer → workSize (roundOf file) ≤ length work
       → (answerNow workNow : List ℕ)
-      → answerNow ≡ answerBytes (roundOf file) ++ drop (answerSize (roundOf file)) answer
+      → answerNow ≡ answerBytes (formOf file) (roundOf file) ++ drop (answerSize (formOf file) (roundOf file)) answer
       → workNow ≡ replicate (workSize (roundOf file)) 0 ++ drop (workSize (roundOf file)) work
       → Promise file answer work (Allotted (offersMade (roundOf file))) answerNow workNow
   promise-allotted e l m answerNow workNow seen cleared =

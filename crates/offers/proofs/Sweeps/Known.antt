@@ -7,7 +7,7 @@ use lib.ListN.{length, take, replicate}
 use Rattle.round.specs.declared.head.Head.{Head as CodeHead}
 use Rattle.round.specs.declared.reader.Reading.{Reading}
 use Rattle.round.specs.declared.reader.Reading.the-variants.{Read}
-use Rattle.round.specs.Records.{Head, headOf}
+use Rattle.round.specs.Records.{Head, formOf, headOf}
 use Rattle.round.specs.Reading.{roundOf}
 use Rattle.round.specs.Places.{instituteAt, meritAt}
 use Rattle.round.specs.Sound.{Sound, SoundInstitute}
@@ -24,7 +24,7 @@ module _ {file merits : List ℕ} {j : ℕ} (known : MeritKnown file merits j) w
   pub institute-sound : SoundInstitute (candidateCount (roundOf file)) (headOf file .types) (instituteAt (roundOf file) j)
   institute-sound = sound file (known .accepted) .institute j (omega (arith, length-institutes file, known .below))
 
-  pub institute-few : j < 32
+  pub institute-few : j < 1000
   institute-few = omega (arith, length-institutes file, known .below, sound file (known .accepted) .institutes-most)
 
   pub numbers-few : headOf file .candidates ≤ 512
@@ -46,6 +46,9 @@ module _ {file merits : List ℕ} {j : ℕ} (known : MeritKnown file merits j) w
 
 -- of the whole file
 module _ {file : List ℕ} {h : CodeHead} {candidates merits : List ℕ} (at : AtHand file h candidates merits) where
+  pub form-is : formOf file ≡ h .form
+  form-is = sym (ap (λ (x : Head). x .form) (at .head))
+
   pub candidates-are : h .candidates ≡ headOf file .candidates
   candidates-are = ap (λ (x : Head). x .candidates) (at .head)
 
@@ -64,7 +67,7 @@ module _ {file : List ℕ} {h : CodeHead} {candidates merits : List ℕ} (at : A
   pub candidates-few : h .candidates ≤ 512
   candidates-few = omega (arith, candidates-many, round-sound .candidates-most)
 
-  pub institutes-few : h .institutes ≤ 32
+  pub institutes-few : h .institutes ≤ 1000
   institutes-few = omega (arith, institutes-many, round-sound .institutes-most)
 
   pub knows-candidate : {i : ℕ} → i < h .candidates → CandidateKnown file candidates i

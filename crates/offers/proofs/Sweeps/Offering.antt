@@ -59,7 +59,7 @@ module _ {file starts : List ℕ} {i : ℕ} (known : CandidateKnown file starts 
   pub tried-few : getD tried i 0 + 1 < 256
   tried-few = omega (arith, row-few)
 
-  next-few : (1 ≤ nextEntry (roundOf file) tried i .institute) × (nextEntry (roundOf file) tried i .institute ≤ 32)
+  next-few : (1 ≤ nextEntry (roundOf file) tried i .institute) × (nextEntry (roundOf file) tried i .institute ≤ 1000)
   next-few =
       let s = sound file (known .accepted) in
       let row = s .candidate i (omega (arith, known .below, length-candidates file)) in
@@ -69,19 +69,19 @@ module _ {file starts : List ℕ} {i : ℕ} (known : CandidateKnown file starts 
     entry-is : entry ≡ nextEntry (roundOf file) tried i
     entry-is = reads ∙ ap (λ k. entryAt (candidateAt (roundOf file) i) k) at
 
-    entry-few : (1 ≤ entry .institute) × (entry .institute ≤ 32)
+    entry-few : (1 ≤ entry .institute) × (entry .institute ≤ 1000)
     entry-few = rw entry-is next-few
 
     pub entry-least : 1 ≤ entry .institute
     entry-least = entry-few .0
 
-    pub entry-small : entry .institute < 256
+    pub entry-small : entry .institute < 65536
     entry-small = omega (arith, entry-few)
 
-    pub entry-inside : (fresh : List ℕ) → length fresh ≡ 32 → entry .institute - 1 < length fresh
+    pub entry-inside : (fresh : List ℕ) → length fresh ≡ 1000 → entry .institute - 1 < length fresh
     entry-inside fresh e = omega (arith, entry-few)
 
-    pub offer-made : {asked wanted fresh : List ℕ} {categories : ℕ} → length fresh ≡ 32 → categories ≡ 2 ^ codeOf (entry .category)
+    pub offer-made : {asked wanted fresh : List ℕ} {categories : ℕ} → length fresh ≡ 1000 → categories ≡ 2 ^ codeOf (entry .category)
         → OfferMade (roundOf file) i tried asked wanted fresh
         (set tried i (getD tried i 0 + 1)) (set asked i (entry .institute)) (set wanted i categories) (set fresh (entry .institute - 1) 1)
     offer-made {asked} {wanted} {fresh} many ec = record {
@@ -101,10 +101,10 @@ module _ (r : Round) (steps tried₀ asked₀ wanted₀ : List ℕ) where
     pub wanted-to : Written wanted₀ wanted (wantedNext r steps tried₀ wanted₀) k
     pub number : made ≡ count k (mayTry r tried₀ steps)
     pub few : made ≤ k
-    pub fresh-many : length fresh ≡ 32
+    pub fresh-many : length fresh ≡ 1000
     pub fresh-new : (i : ℕ) → i < k → mayTry r tried₀ steps i ≡ true → getD fresh (nextEntry r tried₀ i .institute - 1) 0 ≢ 0
 
-  pub none-offered : {fresh : List ℕ} → length fresh ≡ 32 → Offering tried₀ asked₀ wanted₀ fresh 0 0
+  pub none-offered : {fresh : List ℕ} → length fresh ≡ 1000 → Offering tried₀ asked₀ wanted₀ fresh 0 0
   none-offered many = record {
     tried-to = begin tried₀ _;
     asked-to = begin asked₀ _;

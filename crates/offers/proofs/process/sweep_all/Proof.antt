@@ -15,7 +15,7 @@ use Rattle.offers.proofs.process.sweep_all.Tie as tie
 
 abbrev Inv-loop : tie.InvT-loop
 Inv-loop file h candidates merits tried₀ asked₀ wanted₀ steps₀ fresh₀ count₀ tried asked wanted steps fresh count =
-    Going (roundOf file) tried asked wanted steps count × (length fresh ≡ 32) × AtHand file h candidates merits
+    Going (roundOf file) tried asked wanted steps count × (length fresh ≡ 1000) × AtHand file h candidates merits
     × (length tried₀ ≡ h .candidates) × (length asked₀ ≡ h .candidates) × (length wanted₀ ≡ h .candidates) × (length steps₀ ≡ h .candidates)
 
 abbrev μ-loop : tie.MeasureT-loop
