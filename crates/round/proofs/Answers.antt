@@ -18,7 +18,7 @@ use Rattle.round.specs.Read.{asHead, InRange, InstituteBody, CandidateBo
 use Rattle.round.proofs.Words.{and-fst, and-snd, and-no, or-cases, all-at, apart-at}
 use Rattle.round.proofs.Passed.{yes}
 
-within-from : (low high x : ℕ) → within low high x ≡ true → low ≤ x
+pub within-from : (low high x : ℕ) → within low high x ≡ true → low ≤ x
 within-from low high x e = leb-true low x (and-fst _ _ e)
 
 pub within-to : (low high x : ℕ) → within low high x ≡ true → x ≤ high
@@ -163,7 +163,7 @@ head-long h kind len e a = omega (arith, length-head h len (rw e at a))
 pub institute-long : (k : CodeHead) (kind : ℕ) (body : List ℕ) → InRange (asHead k) → kind ≡ 2 → lengthAllowed (asHead k) kind (length body) ≡ true → InstituteBody (k .types) body
 institute-long k kind body y e a = record { types-most = y .types-most; long = length-institute (asHead k) (length body) (rw e at a) }
 
-pub candidate-long : (h : Head) (kind : ℕ) (body : List ℕ) → kind ≡ 3 → lengthAllowed h kind (length body) ≡ true → CandidateBody (h .form) body
-candidate-long h kind body e a =
-    let fits = length-candidate h (length body) (rw e at a) in
+pub candidate-long : (k : CodeHead) (kind : ℕ) (body : List ℕ) → kind ≡ 3 → lengthAllowed (asHead k) kind (length body) ≡ true → CandidateBody (k .form) body
+candidate-long k kind body e a =
+    let fits = length-candidate (asHead k) (length body) (rw e at a) in
     record { least = fits .least; most = fits .most }

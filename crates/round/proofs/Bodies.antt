@@ -4,6 +4,7 @@ use mathlib.Core.Path.{_≡_, sym, ap, ap₂, _∙_}
 use mathlib.Core.List.{List}
 use native.Mathlib.Omega.{arith}
 use lib.ListN.{length, getD}
+use Rattle.round.specs.declared.form.Form.{Form}
 use Rattle.round.specs.declared.head.Head.{Head as CodeHead}
 use Rattle.round.specs.declared.entry.Category.{Category}
 use Rattle.round.specs.declared.entry.Entry.{Entry}
@@ -14,6 +15,7 @@ use Rattle.round.specs.Questions.{entryCount, instituteIn, codeIn, merit
 use Rattle.round.specs.Round.{Candidate, Institute}
 use Rattle.round.specs.Reading.{stepsIn, entryIn, candidateIn, instituteFrom}
 use Rattle.round.specs.Places.{entryAt, meritAt, noEntry}
+use Rattle.round.specs.Read.{CandidateBody}
 use Rattle.round.specs.Access.{candidateOf, instituteOf, CandidateKnown, MeritKnown, InstituteKnown, CandidateRead, MeritRead, BodyRead}
 use Rattle.round.proofs.Words.{length-tabulate, tabulate-at}
 use Rattle.round.proofs.Passed.{Passed, passed}
@@ -63,21 +65,34 @@ module _ (file : List ℕ) (i : ℕ) {body : List ℕ} (r : CandidateRead file i
   unfolding candidateIn
   marks-of-body = ap (λ (c : Candidate). c .marks) (r .candidate-of)
 
-  pub row-length : length (candidateOf file i .row) ≡ entryCount (formOf file) body
-  unfolding candidateIn
-  row-length = sym (ap (λ (c : Candidate). length (c .row)) (r .candidate-of)) ∙ length-tabulate 0 (entryCount (formOf file) body) (entryIn (formOf file) body)
+  module _ {form : Form} (f : form ≡ formOf file) where
+    pub body-long : CandidateBody form body
+    body-long = rw f (r .long)
 
-  row-entry : (k : ℕ) → k < entryCount (formOf file) body → entryAt (candidateOf file i) k ≡ entryIn (formOf file) body k
-  unfolding candidateIn
-  row-entry k l = sym (ap (λ (c : Candidate). entryAt c k) (r .candidate-of)) ∙ tabulate-at (entryCount (formOf file) body) (entryIn (formOf file) body) noEntry k l
+    in-form : candidateIn form body ≡ candidateOf file i
+    in-form = rw f (r .candidate-of)
 
-  pub entry-read : (k : ℕ) {institute : ℕ} {category : Category} → k < length (candidateOf file i .row)
-      → institute ≡ instituteIn (formOf file) body k → category ≡ categoryOf (codeIn (formOf file) body k)
-      → _≡_ {A = Entry} (record { institute = institute; category = category }) (entryAt (candidateOf file i) k)
-  unfolding entryIn
-  entry-read k l e d =
-      ap₂ (λ (x : ℕ) (y : Category). record { institute = x; category = y }) e d
-      ∙ sym (row-entry k (omega (arith, row-length)))
+    row-length : length (candidateOf file i .row) ≡ entryCount form body
+    unfolding candidateIn
+    row-length = sym (ap (λ (c : Candidate). length (c .row)) in-form) ∙ length-tabulate 0 (entryCount form body) (entryIn form body)
+
+    pub row-count : {count : ℕ} → count ≡ entryCount form body → count ≡ length (candidateOf file i .row)
+    row-count e = e ∙ sym row-length
+
+    pub row-inside : {k : ℕ} → k < length (candidateOf file i .row) → k < entryCount form body
+    row-inside l = omega (arith, row-length)
+
+    row-entry : (k : ℕ) → k < entryCount form body → entryAt (candidateOf file i) k ≡ entryIn form body k
+    unfolding candidateIn
+    row-entry k l = sym (ap (λ (c : Candidate). entryAt c k) in-form) ∙ tabulate-at (entryCount form body) (entryIn form body) noEntry k l
+
+    pub entry-read : (k : ℕ) {institute code : ℕ} {category : Category} → k < length (candidateOf file i .row)
+        → institute ≡ instituteIn form body k → code ≡ codeIn form body k → category ≡ categoryOf code
+        → _≡_ {A = Entry} (record { institute = institute; category = category }) (entryAt (candidateOf file i) k)
+    unfolding entryIn
+    entry-read k l e f d =
+        ap₂ (λ (x : ℕ) (y : Category). record { institute = x; category = y }) e (d ∙ ap categoryOf f)
+        ∙ sym (row-entry k (row-inside l))
 
 -- what a merit list's body has at each place
 module _ (file : List ℕ) (j : ℕ) {body : List ℕ} (r : MeritRead file j body) where

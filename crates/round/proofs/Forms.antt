@@ -7,11 +7,16 @@ use Rattle.round.specs.declared.form.Form.{Form}
 use Rattle.round.specs.declared.form.Form.the-variants.{Narrow, Wide}
 use Rattle.round.specs.Form.{institutesMost, entryWidth}
 use Rattle.round.specs.Questions.{entryCount}
+use Rattle.round.specs.Read.{CandidateBody}
 
 -- no form has more than 1,000 institutes
 pub institutes-few : (form : Form) → institutesMost form ≤ 1000
 institutes-few Narrow = omega arith
 institutes-few Wide = omega arith
+
+pub institutes-some : (form : Form) → 1 ≤ institutesMost form
+institutes-some Narrow = omega arith
+institutes-some Wide = omega arith
 
 -- an entry has two bytes or three
 pub width-least : (form : Form) → 2 ≤ entryWidth form
@@ -26,6 +31,9 @@ width-most Wide = omega arith
 pub entries-few : (form : Form) (body : List ℕ) → length body ≤ 2 + 16 * entryWidth form → entryCount form body ≤ 16
 entries-few Narrow body l = omega arith
 entries-few Wide body l = omega arith
+
+pub body-few : {form : Form} {body : List ℕ} → CandidateBody form body → entryCount form body ≤ 16
+body-few {form} {body} y = entries-few form body (y .most)
 
 -- the bytes of an entry stand in the body
 pub entry-inside : (form : Form) (body : List ℕ) (k : ℕ) → k < entryCount form body → 2 + entryWidth form * k + entryWidth form ≤ length body

@@ -43,11 +43,11 @@ lead-no {at} {n} l m = lt-leb (at + 4) n (omega arith)
 pub lead-there : {at n : ℕ} → at ≤ n → 4 ≤ n - at → leb (at + 4) n ≡ true
 lead-there {at} {n} l m = le-leb (at + 4) n (omega arith)
 
-pub kind-no : {k kind read : ℕ} → read ≡ k → (read ≡ kind → ⊥) → eqb k kind ≡ false
-kind-no e d = ne-eqb _ _ (λ q. d (e ∙ q))
+pub kind-no : {k kind read due : ℕ} → read ≡ k → due ≡ kind → (read ≡ due → ⊥) → eqb k kind ≡ false
+kind-no e f d = ne-eqb _ _ (λ q. d (e ∙ (q ∙ sym f)))
 
-pub kind-due : {k kind read : ℕ} → read ≡ k → read ≡ kind → eqb k kind ≡ true
-kind-due e d = eq-eqb _ _ (sym e ∙ d)
+pub kind-due : {k kind read due : ℕ} → read ≡ k → due ≡ kind → read ≡ due → eqb k kind ≡ true
+kind-due e f d = eq-eqb _ _ (sym e ∙ (d ∙ f))
 
 pub allowed-no : (h : Head) (kind : ℕ) {len read : ℕ} {r : Bool} → read ≡ len → r ≡ lengthAllowed h kind read → not r ≡ true → lengthAllowed h kind len ≡ false
 allowed-no h kind e f d = rw e at (sym f ∙ not-true _ d)

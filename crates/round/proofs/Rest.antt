@@ -93,19 +93,18 @@ module _ (file : List ℕ) (k : CodeHead) (from : ℕ) where
           pub more-refused : (e₃ ≡ length file → ⊥) → RestRead file (asHead k) from (Refused 13 e₃) c₀ c m₀ m
           more-refused d = rest-refused c₀ c m₀ m refl (rw (ne-eqb e₃ (length file) d) at end-verdict)
 
-          pub rest-read : InRange (asHead k) → 512 ≤ length c₀ → institutesMost (k .form) ≤ length m₀ → length c ≡ length c₀ → length m ≡ length m₀ → e₃ ≡ length file
-              → RestRead file (asHead k) from (Read k) c₀ c m₀ m
-          rest-read y many more kept kept′ d = record {
+          pub rest-read : k .candidates ≤ length c → k .institutes ≤ length m → e₃ ≡ length file → RestRead file (asHead k) from (Read k) c₀ c m₀ m
+          rest-read fits fits′ d = record {
             answer = rw (eq-eqb e₃ (length file) d) at end-verdict;
             head = λ j q. let s : j ≡ k = cc in ap asHead s;
             candidate-starts = λ j q s. record {
-              room = omega (arith, y .candidates-most);
+              room = fits;
               starts-at = λ i l.
                   R₂ .starts-at (1 + k .institutes) e₂ i (R₁ .part .ends 1 e₁ s l₁) l₂ l
                   ∙ ap (startOf file) (assoc (k .institutes) i);
             };
             merit-starts = λ j q s. record {
-              room = omega (arith, y .institutes-most);
+              room = fits′;
               starts-at = λ i l.
                   R₃ .starts-at (1 + k .institutes + k .candidates) e₃ i (R₂ .part .ends (1 + k .institutes) e₂ (R₁ .part .ends 1 e₁ s l₁) l₂) l₃ l
                   ∙ ap (startOf file) (assoc₃ (k .institutes) (k .candidates) i);
@@ -125,9 +124,9 @@ pub head-questions : (file : List ℕ) (h : Head) → h .form ≡ formOf file �
 unfolding questionsAt
 head-questions file h e = rw e
 
-module _ (file : List ℕ) {r₀ : Part} (h₀ : Head) (formed : h₀ .form ≡ formOf file) (got : r₀ ≡ partBy (firstNo (questionsAt file h₀ 1 0)) 0 (nextAt file 0)) where
+module _ (file : List ℕ) {r₀ : Part} (h₀ : Head) {form : Form} (f : form ≡ formOf file) (formed : h₀ .form ≡ form) (got : r₀ ≡ partBy (firstNo (questionsAt file h₀ 1 0)) 0 (nextAt file 0)) where
   head-got : r₀ ≡ partBy (firstNo (questionsAt file (headOf file) 1 0)) 0 (nextAt file 0)
-  head-got = got ∙ ap (λ q. partBy (firstNo q) 0 (nextAt file 0)) (head-questions file h₀ formed)
+  head-got = got ∙ ap (λ q. partBy (firstNo q) 0 (nextAt file 0)) (head-questions file h₀ (formed ∙ f))
 
   head-verdict : onward r₀ (verdictFrom file (headOf file) (dueAfter (headOf file))) ≡ verdict file
   unfolding verdict
@@ -178,12 +177,15 @@ module _ (file : List ℕ) {r₀ : Part} (h₀ : Head) (formed : h₀ .form ≡ 
     pub head-room : 8 ≤ length (take (end - 4) (drop 4 file))
     head-room = rw head-body (omega (arith, lead .body-length, head-length))
 
-    module _ {k : CodeHead} {form : Form} (f : form ≡ formOf file) (e : asHead k ≡ headIn form (take (end - 4) (drop 4 file))) where
+    module _ {k : CodeHead} (e : asHead k ≡ headIn form (take (end - 4) (drop 4 file))) where
       same-head : asHead k ≡ headOf file
       same-head = e ∙ ap₂ headIn f head-body
 
       pub head-range : InRange (asHead k)
       head-range = rw same-head (answers.head-yes (formOf file) (bodyAt file 0) (lead .body-yes))
+
+      pub head-places : {n : ℕ} → institutesMost (formOf file) ≤ n → institutesMost (k .form) ≤ n
+      head-places l = rw (ap (λ (h : Head). h .form) same-head) l
 
       pub round-read : {r : Reading} {c₀ c m₀ m : List ℕ} → RestRead file (asHead k) end r c₀ c m₀ m → RoundRead file r c₀ c m₀ m
       unfolding startOf

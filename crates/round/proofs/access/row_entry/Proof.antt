@@ -1,34 +1,21 @@
--- `round::access::row_entry` meets its contract: the two bytes of the entry.
+-- `round::access::row_entry` meets its contract: the bytes of the entry.
 -- Assumes nothing.
-use native.Mathlib.Omega.{arith}
-use Rattle.round.proofs.Bodies.{row-length, entry-read}
+use Rattle.round.proofs.Bodies.{body-long, row-inside, entry-read}
 use borrow.Author.Needs.{needs}
 use Rattle.round.proofs.access.row_entry.Statement.{statement}
 use Rattle.round.proofs.access.row_entry.Tie as tie
 
+form-of-requires : tie.Need-form-of-requires
+form-of-requires c κs = search needs
+
 candidate-body-requires : tie.Need-candidate-body-requires
 candidate-body-requires c κs = search needs
 
-mul-wide : tie.Need-mul-wide
-mul-wide c = omega (arith, row-length)
+institute-in-requires : tie.Need-institute-in-requires
+institute-in-requires c κs = (search body-long, search row-inside)
 
-add-wide : tie.Need-add-wide
-add-wide c = omega (arith, row-length)
-
-shared-slice-read-wide : tie.Need-shared-slice-read-wide
-shared-slice-read-wide c = omega (arith, row-length)
-
-wide-requires : tie.Need-wide-requires
-wide-requires c κs = search needs
-
-mul-category-of : tie.Need-mul-category-of
-mul-category-of c = omega (arith, row-length)
-
-add-category-of : tie.Need-add-category-of
-add-category-of c = omega (arith, row-length)
-
-shared-slice-read-category-of : tie.Need-shared-slice-read-category-of
-shared-slice-read-category-of c = omega (arith, row-length)
+code-in-requires : tie.Need-code-in-requires
+code-in-requires c κs = (search body-long, search row-inside)
 
 category-of-requires : tie.Need-category-of-requires
 category-of-requires c κs = search needs
@@ -40,13 +27,9 @@ pub row-entry-spec : {M : Type 1} → statement M
 row-entry-spec =
     tie.close
     (tie.spec
+    form-of-requires
     candidate-body-requires
-    mul-wide
-    add-wide
-    shared-slice-read-wide
-    wide-requires
-    mul-category-of
-    add-category-of
-    shared-slice-read-category-of
+    institute-in-requires
+    code-in-requires
     category-of-requires
     returns)

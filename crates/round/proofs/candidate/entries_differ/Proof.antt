@@ -12,10 +12,10 @@ use Rattle.round.proofs.candidate.entries_differ.Statement.{statement}
 use Rattle.round.proofs.candidate.entries_differ.Tie as tie
 
 abbrev Inv-loop : tie.InvT-loop
-Inv-loop body count l₀ l = (l ≤ count) × (apart l (sameIn body) ≡ true)
+Inv-loop body form count l₀ l = (l ≤ count) × (apart l (sameIn form body) ≡ true)
 
 abbrev μ-loop : tie.MeasureT-loop
-μ-loop body count l₀ l = count - l
+μ-loop body form count l₀ l = count - l
 
 entry-count-requires : tie.Need-entry-count-requires Inv-loop μ-loop
 entry-count-requires c κs = search needs

@@ -1,68 +1,46 @@
 -- `round::candidate::entries_same` meets its contract: the two tests are those of the definition.
 -- Assumes nothing.
+use Prim.Native.Nat.{ℕ}
+use mathlib.Core.Path.{_≡_, sym, _∙_}
+use mathlib.Core.Bool.{false, _&&_}
 use borrow.Author.Tests.{eq-eqb, ne-eqb}
+use lib.Dec.{eqb}
 use Rattle.round.proofs.Words.{and-false, and-true}
 use borrow.Author.Needs.{needs}
 use Rattle.round.proofs.candidate.entries_same.Statement.{statement}
 use Rattle.round.proofs.candidate.entries_same.Tie as tie
 
-mul-if1 : tie.Need-mul-if1
-mul-if1 c = search needs
+both-tests : {a b c d i j k l : ℕ} → i ≡ a → j ≡ b → i ≡ j → k ≡ c → l ≡ d → eqb k l ≡ eqb a b && eqb c d
+both-tests e f q g h = and-true (eq-eqb _ _ (sym e ∙ (q ∙ f))) cc
 
-add-if1 : tie.Need-add-if1
-add-if1 c = search needs
+first-test : {a b i j : ℕ} (c d : ℕ) → i ≡ a → j ≡ b → (i ≡ j → ⊥) → false ≡ eqb a b && eqb c d
+first-test c d e f q = and-false (eqb c d) (ne-eqb _ _ (λ s. q (e ∙ (s ∙ sym f))))
 
-shared-slice-read-if1 : tie.Need-shared-slice-read-if1
-shared-slice-read-if1 c = search needs
+institute-in-requires : tie.Need-institute-in-requires
+institute-in-requires c κs = search needs
 
-mul-if1-2 : tie.Need-mul-if1-2
-mul-if1-2 c = search needs
+institute-in-requires-2 : tie.Need-institute-in-requires-2
+institute-in-requires-2 c κs = search needs
 
-add-if1-2 : tie.Need-add-if1-2
-add-if1-2 c = search needs
+code-in-requires : tie.Need-code-in-requires
+code-in-requires c κs = search needs
 
-shared-slice-read-if1-2 : tie.Need-shared-slice-read-if1-2
-shared-slice-read-if1-2 c = search needs
-
-mul-result : tie.Need-mul-result
-mul-result c = search needs
-
-add-result : tie.Need-add-result
-add-result c = search needs
-
-shared-slice-read-result : tie.Need-shared-slice-read-result
-shared-slice-read-result c = search needs
-
-mul-result-2 : tie.Need-mul-result-2
-mul-result-2 c = search needs
-
-add-result-2 : tie.Need-add-result-2
-add-result-2 c = search needs
-
-shared-slice-read-result-2 : tie.Need-shared-slice-read-result-2
-shared-slice-read-result-2 c = search needs
+code-in-requires-2 : tie.Need-code-in-requires-2
+code-in-requires-2 c κs = search needs
 
 returns : tie.Need-returns
-returns c = search (and-true, eq-eqb)
+returns c = search both-tests
 
 returns-2 : tie.Need-returns-2
-returns-2 c = search (and-false, ne-eqb)
+returns-2 c = search first-test
 
 pub entries-same-spec : {M : Type 1} → statement M
 entries-same-spec =
     tie.close
     (tie.spec
-    mul-if1
-    add-if1
-    shared-slice-read-if1
-    mul-if1-2
-    add-if1-2
-    shared-slice-read-if1-2
-    mul-result
-    add-result
-    shared-slice-read-result
-    mul-result-2
-    add-result-2
-    shared-slice-read-result-2
+    institute-in-requires
+    institute-in-requires-2
+    code-in-requires
+    code-in-requires-2
     returns
     returns-2)

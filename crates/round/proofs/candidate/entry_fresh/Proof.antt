@@ -12,10 +12,10 @@ use Rattle.round.proofs.candidate.entry_fresh.Statement.{statement}
 use Rattle.round.proofs.candidate.entry_fresh.Tie as tie
 
 abbrev Inv-loop : tie.InvT-loop
-Inv-loop body l k₀ k = (k ≤ l) × (all k (λ i. not (sameIn body i l)) ≡ true)
+Inv-loop body form l k₀ k = (k ≤ l) × (all k (λ i. not (sameIn form body i l)) ≡ true)
 
 abbrev μ-loop : tie.MeasureT-loop
-μ-loop body l k₀ k = l - k
+μ-loop body form l k₀ k = l - k
 
 loop-holds : tie.Need-loop-holds Inv-loop μ-loop
 loop-holds c = (omega arith, refl)

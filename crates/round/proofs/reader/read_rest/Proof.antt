@@ -6,8 +6,8 @@ use borrow.Author.Needs.{needs}
 use Rattle.round.proofs.reader.read_rest.Statement.{statement}
 use Rattle.round.proofs.reader.read_rest.Tie as tie
 
-read-institutes-requires : tie.Need-read-institutes-requires
-read-institutes-requires c κs = search needs
+read-kind-requires : tie.Need-read-kind-requires
+read-kind-requires c κs = search needs
 
 enum-known-institutes : tie.Need-enum-known-institutes
 enum-known-institutes c = search needs
@@ -18,11 +18,14 @@ enum-told c = search needs
 handed-requires : tie.Need-handed-requires
 handed-requires c κs = search needs
 
+same-length : tie.Need-same-length
+same-length c = search needs
+
 returns : tie.Need-returns
 returns c = search institutes-refused
 
-read-kind-requires : tie.Need-read-kind-requires
-read-kind-requires c κs = (search, (search part-inside, omega arith))
+read-kind-requires-2 : tie.Need-read-kind-requires-2
+read-kind-requires-2 c κs = (search, (search part-inside, omega arith))
 
 enum-known-rows : tie.Need-enum-known-rows
 enum-known-rows c = search needs
@@ -33,14 +36,17 @@ enum-told-2 c = search needs
 handed-requires-2 : tie.Need-handed-requires-2
 handed-requires-2 c κs = search needs
 
-same-length : tie.Need-same-length
-same-length c = search needs
+same-length-2 : tie.Need-same-length-2
+same-length-2 c = search needs
+
+same-length-3 : tie.Need-same-length-3
+same-length-3 c = search needs
 
 returns-2 : tie.Need-returns-2
 returns-2 c = search rows-refused
 
-read-kind-requires-2 : tie.Need-read-kind-requires-2
-read-kind-requires-2 c κs = (search, (search part-inside, omega arith))
+read-kind-requires-3 : tie.Need-read-kind-requires-3
+read-kind-requires-3 c κs = (search, (search part-inside, omega arith))
 
 enum-known-lists : tie.Need-enum-known-lists
 enum-known-lists c = search needs
@@ -51,29 +57,29 @@ enum-told-3 c = search needs
 handed-requires-3 : tie.Need-handed-requires-3
 handed-requires-3 c κs = search needs
 
-same-length-2 : tie.Need-same-length-2
-same-length-2 c = search needs
-
-same-length-3 : tie.Need-same-length-3
-same-length-3 c = search needs
-
-returns-3 : tie.Need-returns-3
-returns-3 c = search lists-refused
-
 same-length-4 : tie.Need-same-length-4
 same-length-4 c = search needs
 
 same-length-5 : tie.Need-same-length-5
 same-length-5 c = search needs
 
-returns-4 : tie.Need-returns-4
-returns-4 c = search rest-read
+returns-3 : tie.Need-returns-3
+returns-3 c = search lists-refused
 
 same-length-6 : tie.Need-same-length-6
 same-length-6 c = search needs
 
 same-length-7 : tie.Need-same-length-7
 same-length-7 c = search needs
+
+returns-4 : tie.Need-returns-4
+returns-4 c = search (rest-read, arith)
+
+same-length-8 : tie.Need-same-length-8
+same-length-8 c = search needs
+
+same-length-9 : tie.Need-same-length-9
+same-length-9 c = search needs
 
 returns-5 : tie.Need-returns-5
 returns-5 c = search more-refused
@@ -82,27 +88,29 @@ pub read-rest-spec : {M : Type 1} → statement M
 read-rest-spec =
     tie.close
     (tie.spec
-    read-institutes-requires
+    read-kind-requires
     enum-known-institutes
     enum-told
     handed-requires
+    same-length
     returns
-    read-kind-requires
+    read-kind-requires-2
     enum-known-rows
     enum-told-2
     handed-requires-2
-    same-length
+    same-length-2
+    same-length-3
     returns-2
-    read-kind-requires-2
+    read-kind-requires-3
     enum-known-lists
     enum-told-3
     handed-requires-3
-    same-length-2
-    same-length-3
-    returns-3
     same-length-4
     same-length-5
-    returns-4
+    returns-3
     same-length-6
     same-length-7
+    returns-4
+    same-length-8
+    same-length-9
     returns-5)

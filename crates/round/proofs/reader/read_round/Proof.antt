@@ -1,9 +1,12 @@
 -- `round::reader::read_round` meets its contract: the head, and what follows it (proofs/Rest.antt).
 -- Assumes nothing.
-use Rattle.round.proofs.Rest.{round-refused, round-read, head-inside, head-room, head-range, head-behind}
+use Rattle.round.proofs.Rest.{round-refused, round-read, head-inside, head-room, head-range, head-behind, head-places}
 use borrow.Author.Needs.{needs}
 use Rattle.round.proofs.reader.read_round.Statement.{statement}
 use Rattle.round.proofs.reader.read_round.Tie as tie
+
+form-of-requires : tie.Need-form-of-requires
+form-of-requires c κs = search needs
 
 unread-requires : tie.Need-unread-requires
 unread-requires c κs = search needs
@@ -36,7 +39,7 @@ head-in-requires : tie.Need-head-in-requires
 head-in-requires c κs = search head-room
 
 read-rest-requires : tie.Need-read-rest-requires
-read-rest-requires c κs = search (head-range, head-inside)
+read-rest-requires c κs = (search head-range, (search head-inside, (search, search head-places)))
 
 same-length : tie.Need-same-length
 same-length c = search needs
@@ -51,6 +54,7 @@ pub read-round-spec : {M : Type 1} → statement M
 read-round-spec =
     tie.close
     (tie.spec
+    form-of-requires
     unread-requires
     read-record-requires
     enum-known-first

@@ -1,8 +1,8 @@
 -- `round::records::find_record` meets its contract: the tests come in the order of the questions.
 -- Assumes nothing.
 use Rattle.round.proofs.Words.{cond-no, cond-yes}
-use borrow.Author.Needs.{needs}
 use Rattle.round.proofs.Found.{refused-by, lawful-by, allowed-no, allowed-yes, lead-no, lead-there, kind-no, kind-due, body-no, body-there}
+use borrow.Author.Needs.{needs}
 use Rattle.round.proofs.records.find_record.Statement.{statement}
 use Rattle.round.proofs.records.find_record.Tie as tie
 
@@ -17,6 +17,9 @@ add-word c = search needs
 
 word-requires : tie.Need-word-requires
 word-requires c κs = search needs
+
+kind-due-requires : tie.Need-kind-due-requires
+kind-due-requires c κs = search needs
 
 returns-2 : tie.Need-returns-2
 returns-2 c = search (refused-by, cond-no, cond-yes, lead-there, kind-no)
@@ -39,8 +42,8 @@ sub-if4 c = search needs
 returns-4 : tie.Need-returns-4
 returns-4 c = search (refused-by, cond-no, cond-yes, lead-there, kind-due, allowed-yes, body-no) depth 6
 
-add-t7 : tie.Need-add-t7
-add-t7 c = search needs
+add-t11 : tie.Need-add-t11
+add-t11 c = search needs
 
 returns-5 : tie.Need-returns-5
 returns-5 c = search (lawful-by, cond-yes, lead-there, kind-due, allowed-yes, body-there) depth 6
@@ -53,6 +56,7 @@ find-record-spec =
     returns
     add-word
     word-requires
+    kind-due-requires
     returns-2
     word-requires-2
     length-allowed-requires
@@ -60,5 +64,5 @@ find-record-spec =
     add-start
     sub-if4
     returns-4
-    add-t7
+    add-t11
     returns-5)

@@ -1,7 +1,7 @@
 -- `round::records::length_allowed` meets its contract: the tests go by kind as the definition does.
 -- Assumes nothing.
 use borrow.Author.Tests.{eq-eqb, ne-eqb, le-leb, lt-leb}
-use Rattle.round.proofs.Words.{and-false, and-true, cond-yes, cond-no, was-no, was-yes}
+use Rattle.round.proofs.Words.{and-false, and-true, cond-yes, cond-no}
 use borrow.Author.Needs.{needs}
 use Rattle.round.proofs.records.length_allowed.Statement.{statement}
 use Rattle.round.proofs.records.length_allowed.Tie as tie
@@ -18,23 +18,20 @@ add-result c = search needs
 returns-2 : tie.Need-returns-2
 returns-2 c = search (cond-yes, cond-no, eq-eqb, ne-eqb)
 
-within-requires : tie.Need-within-requires
-within-requires c κs = search needs
+row-allowed-requires : tie.Need-row-allowed-requires
+row-allowed-requires c κs = search needs
 
 returns-3 : tie.Need-returns-3
-returns-3 c = search (cond-yes, cond-no, eq-eqb, ne-eqb, and-false, was-no)
+returns-3 c = search (cond-yes, cond-no, eq-eqb, ne-eqb)
+
+mul-if4 : tie.Need-mul-if4
+mul-if4 c = search needs
 
 returns-4 : tie.Need-returns-4
-returns-4 c = search (cond-yes, cond-no, eq-eqb, ne-eqb, and-true, was-yes)
-
-mul-if5 : tie.Need-mul-if5
-mul-if5 c = search needs
+returns-4 c = search (cond-no, ne-eqb, and-false, lt-leb)
 
 returns-5 : tie.Need-returns-5
-returns-5 c = search (cond-no, ne-eqb, and-false, lt-leb)
-
-returns-6 : tie.Need-returns-6
-returns-6 c = search (cond-no, ne-eqb, and-true, le-leb)
+returns-5 c = search (cond-no, ne-eqb, and-true, le-leb)
 
 pub length-allowed-spec : {M : Type 1} → statement M
 length-allowed-spec =
@@ -44,9 +41,8 @@ length-allowed-spec =
     mul-result
     add-result
     returns-2
-    within-requires
+    row-allowed-requires
     returns-3
+    mul-if4
     returns-4
-    mul-if5
-    returns-5
-    returns-6)
+    returns-5)
