@@ -8,8 +8,6 @@ use Rattle.round.specs.declared.head.Head.{Head as CodeHead}
 use Rattle.round.specs.declared.reader.Reading.{Reading}
 use Rattle.round.specs.declared.reader.Reading.the-variants.{Refused as ReadingRefused}
 use Rattle.round.specs.Outcome.{verdictOf, RoundRead}
-use Rattle.round.specs.declared.form.Form.the-variants.{Narrow, Wide}
-use Rattle.round.specs.Form.{institutesMost}
 use Rattle.round.specs.Records.{formOf}
 use Rattle.round.specs.Reading.{roundOf}
 use Rattle.allotment.specs.declared.Answer.{Answer}
@@ -51,13 +49,6 @@ module _ {file : List ℕ} {h : CodeHead} {candidates merits : List ℕ} (hand :
         rw told
         (promise-allotted file answer work (hand .passing) (omega (arith, answer-size)) (omega (arith, work-size)) answerNow workNow seen
         (rw work-size cleared))
-
--- a table with room for the most institutes of the form
-pub narrow-room : {file table : List ℕ} → formOf file ≡ Narrow → length table ≡ 32 → institutesMost (formOf file) ≤ length table
-narrow-room e l = rw e (omega arith)
-
-pub wide-room : {file table : List ℕ} → formOf file ≡ Wide → length table ≡ 1000 → institutesMost (formOf file) ≤ length table
-wide-room e l = rw e (omega arith)
 
 -- a file that was asked about
 module _ {file : List ℕ} {got : Reading} {candidates₀ candidates merits₀ merits : List ℕ} (asked : RoundRead file got candidates₀ candidates merits₀ merits) where

@@ -7,6 +7,8 @@ use lib.ListN.{length, take, replicate}
 use Rattle.round.specs.declared.head.Head.{Head as CodeHead}
 use Rattle.round.specs.declared.reader.Reading.{Reading}
 use Rattle.round.specs.declared.reader.Reading.the-variants.{Read}
+use Rattle.round.specs.declared.form.Form.the-variants.{Narrow, Wide}
+use Rattle.round.specs.Form.{institutesMost}
 use Rattle.round.specs.Records.{Head, formOf, headOf}
 use Rattle.round.specs.Reading.{roundOf}
 use Rattle.round.specs.Places.{instituteAt, meritAt}
@@ -93,6 +95,13 @@ head-many file n e = e ∙ length-candidates file
 
 pub zeros-room : (n : ℕ) (l : List ℕ) → l ≡ replicate n 0 → n ≤ length l
 zeros-room n l e = omega (arith, sized n e)
+
+-- a table with room for the most institutes of the form
+pub narrow-room : {file table : List ℕ} → formOf file ≡ Narrow → length table ≡ 32 → institutesMost (formOf file) ≤ length table
+narrow-room e l = rw e (omega arith)
+
+pub wide-room : {file table : List ℕ} → formOf file ≡ Wide → length table ≡ 1000 → institutesMost (formOf file) ≤ length table
+wide-room e l = rw e (omega arith)
 
 -- a file that was read is at hand
 pub at-hand : {file : List ℕ} {got : Reading} {candidates₀ candidates merits₀ merits : List ℕ} → RoundRead file got candidates₀ candidates merits₀ merits
