@@ -1,20 +1,22 @@
 -- The page of an accepted file: its head is there, the page fits, and what is read off its answer area is the page of its round.
 use Prim.Native.Nat.{ℕ, _+_, _*_, _<_, _≤_}
-use mathlib.Core.Path.{_≡_, sym, ap, _∙_}
+use mathlib.Core.Path.{_≡_, sym, ap, ap₂, _∙_}
 use mathlib.Core.List.{List}
 use native.Mathlib.Omega.{arith}
 use lib.ListN.{length, getD, take, drop, length-append}
 use mir.Syntax.{w8, w64}
 use mir.Val as val
 use Rattle.round.specs.declared.head.Head.{Head as CodeHead}
-use Rattle.round.specs.Records.{Head, headIn, headOf, lengthAt, bodyAt}
+use Rattle.round.specs.declared.form.Form.{Form}
+use Rattle.round.specs.Records.{Head, headIn, headOf, formOf, lengthAt}
 use Rattle.round.specs.Reading.{roundOf}
 use Rattle.round.specs.Read.{asHead, InRange}
 use Rattle.round.proofs.Answers as answers
+use Rattle.round.proofs.Forms.{institutes-few}
 use Rattle.round.proofs.Passed.{passed}
-use Rattle.round.proofs.Sound.{sound, length-candidates, length-institutes}
+use Rattle.round.proofs.Sound.{head-fits, sound, length-candidates, length-institutes}
 use Rattle.offers.specs.Process.{candidateCount, instituteCount}
-use Rattle.allotment.specs.Areas.{answerBytes}
+use Rattle.allotment.specs.Areas.{sizeFor, answerBytes}
 use Rattle.offers.specs.Areas.{seatIn}
 use Rattle.allotment.proofs.Files.AreaSeats.{length-answer}
 use Rattle.text.specs.Put.{Fits, Put, Front}
@@ -35,12 +37,12 @@ module _ {file : List ℕ} {offers : ℕ} {answer : List ℕ} (known : Answered 
   head-there = omega (arith, lead .body-there, head-length)
 
   -- the numbers that stand in the head
-  module _ {h : CodeHead} (read : asHead h ≡ headIn (take 8 (drop 4 file))) where
+  module _ {form : Form} {h : CodeHead} (formed : form ≡ formOf file) (read : asHead h ≡ headIn form (take 8 (drop 4 file))) where
     same-head : asHead h ≡ headOf file
-    same-head = read ∙ ap (λ (n : ℕ). headIn (take n (drop 4 file))) (sym head-length)
+    same-head = read ∙ ap₂ (λ (f : Form) (n : ℕ). headIn f (take n (drop 4 file))) formed (sym head-length)
 
     range : InRange (asHead h)
-    range = rw same-head (answers.head-yes (bodyAt file 0) (lead .body-yes))
+    range = rw same-head (head-fits file (passed file (known .accepted)))
 
     candidates-many : h .candidates ≡ candidateCount (roundOf file)
     candidates-many = ap (λ (k : Head). k .candidates) same-head ∙ sym (length-candidates file)
@@ -48,34 +50,41 @@ module _ {file : List ℕ} {offers : ℕ} {answer : List ℕ} (known : Answered 
     institutes-many : h .institutes ≡ instituteCount (roundOf file)
     institutes-many = ap (λ (k : Head). k .institutes) same-head ∙ sym (length-institutes file)
 
-    pub answer-there : 3 * h .candidates + 12 * h .institutes ≤ length answer
-    answer-there =
-        omega (
+    institutes-thousand : h .institutes ≤ 1000
+    institutes-thousand = omega (arith, range .institutes-most, institutes-few (h .form))
+
+    size-there : sizeFor form (h .candidates) (h .institutes) ≤ length answer
+    size-there =
+        rw (formed, candidates-many, institutes-many)
+        (omega (
           arith,
-          candidates-many,
-          institutes-many,
           ap length (known .stands),
-          length-append (answerBytes (roundOf file)) (known .rest),
-          length-answer (roundOf file),
-        )
+          length-append (answerBytes (formOf file) (roundOf file)) (known .rest),
+          length-answer (formOf file) (roundOf file),
+        ))
 
-    seats-few : (i : ℕ) → i < h .candidates → (seatIn answer i .institute < 100) × (seatIn answer i .step < 10)
-    seats-few i l = rw (known .stands) (digits-few (roundOf file) (sound file (known .accepted)) (known .rest) i (omega (arith, candidates-many)))
+    pub answer-there : (h .candidates ≤ 512) × (h .institutes ≤ 1000) × (sizeFor form (h .candidates) (h .institutes) ≤ length answer)
+    answer-there = (range .candidates-most, institutes-thousand, size-there)
 
-    pub page-fits : {area : List ℕ} → 8192 ≤ length area → val.Fits w64 offers → ((i : ℕ) → val.Fits w8 (getD answer i 0))
-        → Fits area 0 (pageIn offers (h .candidates) (h .institutes) answer)
+    seats-few : (i : ℕ) → i < h .candidates → (seatIn form answer i .institute < 10000) × (seatIn form answer i .step < 10)
+    seats-few i l =
+        rw (formed, known .stands)
+        (digits-few (formOf file) (roundOf file) (sound file (known .accepted)) (known .rest) i (omega (arith, candidates-many)))
+
+    pub page-fits : {area : List ℕ} → 57344 ≤ length area → val.Fits w64 offers → ((i : ℕ) → val.Fits w8 (getD answer i 0))
+        → Fits area 0 (pageIn form offers (h .candidates) (h .institutes) answer)
     page-fits l few bytes = record {
       room = omega (
         arith,
-        page-short answer (λ i. omega (arith, bytes i)) (range .candidates-most) (range .institutes-most) seats-few offers (omega arith),
+        page-short answer (λ i. omega (arith, bytes i)) form (range .candidates-most) institutes-thousand seats-few offers (omega arith),
       );
     }
 
-    page-read : pageIn offers (h .candidates) (h .institutes) answer ≡ page (roundOf file)
+    page-read : pageIn form offers (h .candidates) (h .institutes) answer ≡ page (roundOf file)
     page-read =
-        rw (known .counted, candidates-many, institutes-many, known .stands)
-        (page-stands (roundOf file) (sound file (known .accepted)) (known .rest))
+        rw (formed, known .counted, candidates-many, institutes-many, known .stands)
+        (page-stands (formOf file) (roundOf file) (sound file (known .accepted)) (known .rest))
 
-    pub answered-front : {area now : List ℕ} {size : ℕ} → 8192 ≤ length area → val.Fits w64 offers → ((i : ℕ) → val.Fits w8 (getD answer i 0))
-        → Put area 0 (pageIn offers (h .candidates) (h .institutes) answer) now size → Front area (page (roundOf file)) now size
+    pub answered-front : {area now : List ℕ} {size : ℕ} → 57344 ≤ length area → val.Fits w64 offers → ((i : ℕ) → val.Fits w8 (getD answer i 0))
+        → Put area 0 (pageIn form offers (h .candidates) (h .institutes) answer) now size → Front area (page (roundOf file)) now size
     answered-front l few bytes p = rw page-read at (front-put (page-fits l few bytes) p)

@@ -1,6 +1,7 @@
 -- A line and a page are their parts, put in one behind the other.
 use Prim.Native.Nat.{ℕ}
 use mathlib.Core.List.{List, _++_}
+use Rattle.round.specs.declared.form.Form.{Form}
 use Rattle.offers.specs.Process.{Seat}
 use Rattle.text.specs.Ascii.{ascii}
 use Rattle.text.specs.Decimal.{decimal, nextNumber, named}
@@ -30,22 +31,22 @@ pub refusal-put : {area numbered placed now : List ℕ} {at a b behind : ℕ} (n
 refusal-put number offset p q t = put-then (put-then p q) t
 
 -- a page is the offers, the seats with the types and the closing places; where there is room for it, there is for each of them
-module _ (offers candidates institutes : ℕ) (answer : List ℕ) {area : List ℕ} {at : ℕ} where
-  pub offers-fit : Fits area at (pageIn offers candidates institutes answer) → Fits area at (offersLine offers)
+module _ (form : Form) (offers candidates institutes : ℕ) (answer : List ℕ) {area : List ℕ} {at : ℕ} where
+  pub offers-fit : Fits area at (pageIn form offers candidates institutes answer) → Fits area at (offersLine offers)
   unfolding pageIn
-  offers-fit room = fits-first (offersLine offers) _ (fits-first (offersLine offers ++ seatLines answer candidates institutes) _ room)
+  offers-fit room = fits-first (offersLine offers) _ (fits-first (offersLine offers ++ seatLines form answer candidates institutes) _ room)
 
   module _ {counted : List ℕ} {a : ℕ} (p : Put area at (offersLine offers) counted a) where
-    pub seats-fit : Fits area at (pageIn offers candidates institutes answer) → Fits counted a (seatLines answer candidates institutes)
+    pub seats-fit : Fits area at (pageIn form offers candidates institutes answer) → Fits counted a (seatLines form answer candidates institutes)
     unfolding pageIn
-    seats-fit room = fits-then _ (fits-first (offersLine offers ++ seatLines answer candidates institutes) _ room) p
+    seats-fit room = fits-then _ (fits-first (offersLine offers ++ seatLines form answer candidates institutes) _ room) p
 
-    module _ {seated : List ℕ} {b : ℕ} (q : Put counted a (seatLines answer candidates institutes) seated b) where
-      pub closings-fit : Fits area at (pageIn offers candidates institutes answer) → Fits seated b (closingLines answer candidates institutes)
+    module _ {seated : List ℕ} {b : ℕ} (q : Put counted a (seatLines form answer candidates institutes) seated b) where
+      pub closings-fit : Fits area at (pageIn form offers candidates institutes answer) → Fits seated b (closingLines form answer candidates institutes)
       unfolding pageIn
       closings-fit room = fits-then _ room (put-then p q)
 
-      pub page-put : {now : List ℕ} {behind : ℕ} → Put seated b (closingLines answer candidates institutes) now behind
-          → Put area at (pageIn offers candidates institutes answer) now behind
+      pub page-put : {now : List ℕ} {behind : ℕ} → Put seated b (closingLines form answer candidates institutes) now behind
+          → Put area at (pageIn form offers candidates institutes answer) now behind
       unfolding pageIn
       page-put t = put-then (put-then p q) t

@@ -2,10 +2,15 @@
 use Prim.Native.Nat.{ℕ, _+_, _*_, _<_, _≤_}
 use mathlib.Core.Path.{_≡_}
 use mathlib.Core.List.{List}
+use native.Mathlib.Omega.{arith}
 use lib.ListN.{getD}
 use Rattle.round.specs.Lists.{tabulate, joined}
 use Rattle.round.specs.Records.{word}
+use Rattle.round.specs.declared.form.Form.{Form}
+use Rattle.round.specs.declared.form.Form.the-variants.{Narrow, Wide}
+use Rattle.round.specs.Form.{seatWidth}
 use Rattle.offers.specs.Areas.{seatIn}
+use Rattle.allotment.specs.Areas.{sizeFor}
 use Rattle.text.specs.Decimal.{nextNumber}
 use Rattle.text.specs.Put.{Fits, Put}
 use Rattle.text.proofs.Putting.{put-none, fits-piece, put-piece, put-all}
@@ -32,59 +37,70 @@ unfolding sixPlaces
 places-put answer from p l m = put-all (placeText answer from) p l m
 
 -- the line of a seat that stands in an answer area, where the types stand from a byte on
-abbrev pub seatText : List ℕ → ℕ → ℕ → List ℕ
-seatText answer types i = seatLine (i + 1) (seatIn answer i) (getD answer (types + i) 0)
+abbrev pub seatText : Form → List ℕ → ℕ → ℕ → List ℕ
+seatText form answer types i = seatLine (i + 1) (seatIn form answer i) (getD answer (types + i) 0)
 
-module _ (answer : List ℕ) (types i : ℕ) {institute step type : ℕ} (first : institute ≡ getD answer (2 * i) 0) (second : step ≡ getD answer (2 * i + 1) 0)
-    (third : type ≡ getD answer (types + i) 0) where
-  seat-here : seatLine (i + 1) (record { institute = institute; step = step }) type ≡ seatText answer types i
-  unfolding seatIn
+module _ (form : Form) (answer : List ℕ) (types i : ℕ) {institute step type : ℕ} (first : institute ≡ seatIn form answer i .institute)
+    (second : step ≡ seatIn form answer i .step) (third : type ≡ getD answer (types + i) 0) where
+  seat-here : seatLine (i + 1) (record { institute = institute; step = step }) type ≡ seatText form answer types i
   seat-here = rw (first, second, third)
 
-  pub seat-room : {page : List ℕ} {at : ℕ} → Fits page at (seatText answer types i)
+  pub seat-room : {page : List ℕ} {at : ℕ} → Fits page at (seatText form answer types i)
       → Fits page at (seatLine (i + 1) (record { institute = institute; step = step }) type)
   seat-room room = rw seat-here room
 
   pub seat-put : {page now : List ℕ} {at behind : ℕ} → Put page at (seatLine (i + 1) (record { institute = institute; step = step }) type) now behind
-      → Put page at (seatText answer types i) now behind
+      → Put page at (seatText form answer types i) now behind
   seat-put p = rw seat-here at p
 
-pub seat-more : (answer : List ℕ) (types i : ℕ) {page mid now : List ℕ} {at next behind : ℕ} → Put page at (joined (tabulate i (seatText answer types))) mid next
-    → Put mid next (seatText answer types i) now behind → Put page at (joined (tabulate (i + 1) (seatText answer types))) now behind
-seat-more answer types i p q = put-piece (seatText answer types) i p q
+pub seat-more : (form : Form) (answer : List ℕ) (types i : ℕ) {page mid now : List ℕ} {at next behind : ℕ}
+    → Put page at (joined (tabulate i (seatText form answer types))) mid next → Put mid next (seatText form answer types i) now behind
+    → Put page at (joined (tabulate (i + 1) (seatText form answer types))) now behind
+seat-more form answer types i p q = put-piece (seatText form answer types) i p q
+
+-- the bytes of candidate i's seat and type stand in an answer area, where the types stand behind the seats and the closing places
+pub seat-there : (form : Form) (n m i size : ℕ) → i < n → sizeFor form n m ≤ size
+    → (seatWidth form * i + seatWidth form ≤ size) × (seatWidth form * n + 12 * m + i < size)
+seat-there Narrow n m i size l k = (omega arith, omega arith)
+seat-there Wide n m i size l k = (omega arith, omega arith)
 
 -- the types stand behind the seats and the closing places
-module _ (answer : List ℕ) {types : ℕ} (candidates institutes : ℕ) (behind-both : types ≡ 2 * candidates + 12 * institutes) where
-  pub seat-fits : (i : ℕ) {page mid : List ℕ} {at next : ℕ} → Fits page at (seatLines answer candidates institutes) → i < candidates
-      → Put page at (joined (tabulate i (seatText answer types))) mid next → Fits mid next (seatText answer types i)
+module _ (form : Form) (answer : List ℕ) {types : ℕ} (candidates institutes : ℕ) (behind-both : types ≡ seatWidth form * candidates + 12 * institutes) where
+  pub seat-fits : (i : ℕ) {page mid : List ℕ} {at next : ℕ} → Fits page at (seatLines form answer candidates institutes) → i < candidates
+      → Put page at (joined (tabulate i (seatText form answer types))) mid next → Fits mid next (seatText form answer types i)
   unfolding seatLines
-  seat-fits i room l p = fits-piece (seatText answer types) candidates i l (rw behind-both room) p
+  seat-fits i room l p = fits-piece (seatText form answer types) candidates i l (rw behind-both room) p
 
-  pub seats-put : {page now : List ℕ} {at behind i : ℕ} → Put page at (joined (tabulate i (seatText answer types))) now behind
-      → i ≤ candidates → candidates ≤ i → Put page at (seatLines answer candidates institutes) now behind
+  pub seats-put : {page now : List ℕ} {at behind i : ℕ} → Put page at (joined (tabulate i (seatText form answer types))) now behind
+      → i ≤ candidates → candidates ≤ i → Put page at (seatLines form answer candidates institutes) now behind
   unfolding seatLines
-  seats-put p l m = rw behind-both at (put-all (seatText answer types) p l m)
+  seats-put p l m = rw behind-both at (put-all (seatText form answer types) p l m)
 
 -- the line of an institute whose closing places stand in an answer area
-abbrev closingText : List ℕ → ℕ → ℕ → List ℕ
-closingText answer candidates j = closingLine (j + 1) (placeIn answer (2 * candidates + 12 * j))
+abbrev closingText : Form → List ℕ → ℕ → ℕ → List ℕ
+closingText form answer candidates j = closingLine (j + 1) (placeIn answer (seatWidth form * candidates + 12 * j))
 
-module _ (answer : List ℕ) (candidates : ℕ) where
-  pub no-closings : (page : List ℕ) (at : ℕ) → Put page at (closingLines answer candidates 0) page at
+-- the bytes of institute j's closing places stand in an answer area
+pub closing-there : (form : Form) (n m j size : ℕ) → j < m → sizeFor form n m ≤ size → seatWidth form * n + 12 * j + 12 ≤ size
+closing-there Narrow n m j size l k = omega arith
+closing-there Wide n m j size l k = omega arith
+
+module _ (form : Form) (answer : List ℕ) (candidates : ℕ) where
+  pub no-closings : (page : List ℕ) (at : ℕ) → Put page at (closingLines form answer candidates 0) page at
   unfolding closingLines
   no-closings page at = put-none page at
 
-  pub closing-fits : (j : ℕ) {page mid : List ℕ} {at next m : ℕ} → Fits page at (closingLines answer candidates m) → j < m
-      → Put page at (closingLines answer candidates j) mid next → Fits mid next (closingText answer candidates j)
+  pub closing-fits : (j : ℕ) {page mid : List ℕ} {at next m : ℕ} → Fits page at (closingLines form answer candidates m) → j < m
+      → Put page at (closingLines form answer candidates j) mid next → Fits mid next (closingText form answer candidates j)
   unfolding closingLines
-  closing-fits j {m = m} room l p = fits-piece (closingText answer candidates) m j l room p
+  closing-fits j {m = m} room l p = fits-piece (closingText form answer candidates) m j l room p
 
-  pub closing-more : (j : ℕ) {page mid now : List ℕ} {at next behind : ℕ} → Put page at (closingLines answer candidates j) mid next
-      → Put mid next (closingText answer candidates j) now behind → Put page at (closingLines answer candidates (j + 1)) now behind
+  pub closing-more : (j : ℕ) {page mid now : List ℕ} {at next behind : ℕ} → Put page at (closingLines form answer candidates j) mid next
+      → Put mid next (closingText form answer candidates j) now behind → Put page at (closingLines form answer candidates (j + 1)) now behind
   unfolding closingLines
-  closing-more j p q = put-piece (closingText answer candidates) j p q
+  closing-more j p q = put-piece (closingText form answer candidates) j p q
 
-  pub closings-put : {page now : List ℕ} {at behind j m : ℕ} → Put page at (closingLines answer candidates j) now behind
-      → j ≤ m → m ≤ j → Put page at (closingLines answer candidates m) now behind
+  pub closings-put : {page now : List ℕ} {at behind j m : ℕ} → Put page at (closingLines form answer candidates j) now behind
+      → j ≤ m → m ≤ j → Put page at (closingLines form answer candidates m) now behind
   unfolding closingLines
-  closings-put p l m = put-all (closingText answer candidates) p l m
+  closings-put p l m = put-all (closingText form answer candidates) p l m

@@ -1,18 +1,25 @@
--- The first 55,373 bytes of an input decide what is printed for it.
-use Prim.Native.Nat.{ℕ}
+-- The first 65,537 bytes of an input decide what is printed for it.
+use Prim.Native.Nat.{ℕ, _<_}
 use mathlib.Core.Path.{_≡_, refl, sym, ap, _∙_}
+use mathlib.Core.Bool.{Bool, true, false}
 use mathlib.Core.List.{List}
-use lib.ListN.{take}
-use Rattle.round.specs.Reading.{roundOf}
-use Rattle.round.specs.Refusal.{Verdict, passes, refused, verdict}
-use Rattle.round.proofs.Prefix.{prefix, whole}
-use Rattle.page.specs.Page.{printedBy, printed}
+use native.Mathlib.Omega.{arith}
+use borrow.Author.Tests.{leb-true, leb-false, lt-leb}
+use lib.Dec.{leb}
+use lib.ListN.{length, take, length-take}
+use lib.Seq.{take-all}
+use Rattle.page.specs.Page.{refusedLine, printed}
 
-pub first-bytes : (input : List ℕ) → printed (take 55373 input) ≡ printed input
+-- an input above 65,536 bytes is refused by 16
+pub printed-long : (input : List ℕ) → 65536 < length input → printed input ≡ refusedLine 16 0
 unfolding printed
-first-bytes input = go (verdict (take 55373 input)) refl
+printed-long input l = rw (lt-leb (length input) 65536 l)
+
+pub first-bytes : (input : List ℕ) → printed (take 65537 input) ≡ printed input
+first-bytes input = go (leb (length input) 65536) refl
   where
-    go : (v : Verdict) → verdict (take 55373 input) ≡ v
-        → printedBy (verdict (take 55373 input)) (roundOf (take 55373 input)) ≡ printedBy (verdict input) (roundOf input)
-    go passes e = ap (λ (file : List ℕ). printedBy (verdict file) (roundOf file)) (whole input e)
-    go (refused number offset) e = rw (e, sym (prefix input) ∙ e)
+    go : (b : Bool) → leb (length input) 65536 ≡ b → printed (take 65537 input) ≡ printed input
+    go true e = ap printed (take-all 65537 input (omega (arith, leb-true (length input) 65536 e)))
+    go false e =
+        let long : 65536 < length input = omega (arith, leb-false (length input) 65536 e) in
+        printed-long (take 65537 input) (omega (arith, length-take 65537 input)) ∙ sym (printed-long input long)
