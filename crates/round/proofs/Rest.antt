@@ -93,18 +93,19 @@ module _ (file : List ℕ) (k : CodeHead) (from : ℕ) where
           pub more-refused : (e₃ ≡ length file → ⊥) → RestRead file (asHead k) from (Refused 13 e₃) c₀ c m₀ m
           more-refused d = rest-refused c₀ c m₀ m refl (rw (ne-eqb e₃ (length file) d) at end-verdict)
 
-          pub rest-read : k .candidates ≤ length c → k .institutes ≤ length m → e₃ ≡ length file → RestRead file (asHead k) from (Read k) c₀ c m₀ m
-          rest-read fits fits′ d = record {
+          pub rest-read : InRange (asHead k) → 512 ≤ length c₀ → institutesMost (k .form) ≤ length m₀ → length c ≡ length c₀ → length m ≡ length m₀ → e₃ ≡ length file
+              → RestRead file (asHead k) from (Read k) c₀ c m₀ m
+          rest-read y many more kept kept′ d = record {
             answer = rw (eq-eqb e₃ (length file) d) at end-verdict;
             head = λ j q. let s : j ≡ k = cc in ap asHead s;
             candidate-starts = λ j q s. record {
-              room = fits;
+              room = omega (arith, y .candidates-most);
               starts-at = λ i l.
                   R₂ .starts-at (1 + k .institutes) e₂ i (R₁ .part .ends 1 e₁ s l₁) l₂ l
                   ∙ ap (startOf file) (assoc (k .institutes) i);
             };
             merit-starts = λ j q s. record {
-              room = fits′;
+              room = omega (arith, y .institutes-most);
               starts-at = λ i l.
                   R₃ .starts-at (1 + k .institutes + k .candidates) e₃ i (R₂ .part .ends (1 + k .institutes) e₂ (R₁ .part .ends 1 e₁ s l₁) l₂) l₃ l
                   ∙ ap (startOf file) (assoc₃ (k .institutes) (k .candidates) i);

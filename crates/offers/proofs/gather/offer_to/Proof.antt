@@ -6,24 +6,24 @@ use Rattle.offers.specs.Sweeps.{offerTo}
 use Rattle.offers.proofs.gather.offer_to.Statement.{statement}
 use Rattle.offers.proofs.gather.offer_to.Tie as tie
 
-shared-slice-read-wide : tie.Need-shared-slice-read-wide
-shared-slice-read-wide c = search needs
+shared-slice-read-long : tie.Need-shared-slice-read-long
+shared-slice-read-long c = search needs
 
-wide-requires : tie.Need-wide-requires
-wide-requires c κs = search needs
+long-requires : tie.Need-long-requires
+long-requires c κs = search needs
 
 shared-slice-read-result : tie.Need-shared-slice-read-result
 shared-slice-read-result c = search needs
 
 returns : tie.Need-returns
 unfolding offerTo
-returns c = let at = c .before in rw (eq-eqb _ _ (sym (at .before .wide .ensures .0) ∙ at .if1 .taken))
+returns c = let at = c .before in rw (eq-eqb _ _ (sym (at .before .long .ensures .0) ∙ at .if1 .taken))
 
 returns-2 : tie.Need-returns-2
 unfolding offerTo
-returns-2 c = rw (ne-eqb _ _ (λ e. c .if1 .left (c .before .wide .ensures .0 ∙ e)))
+returns-2 c = rw (ne-eqb _ _ (λ e. c .if1 .left (c .before .long .ensures .0 ∙ e)))
 
 pub offer-to-spec : {M : Type 1} → statement M
 offer-to-spec =
     tie.close
-    (tie.spec shared-slice-read-wide wide-requires shared-slice-read-result returns returns-2)
+    (tie.spec shared-slice-read-long long-requires shared-slice-read-result returns returns-2)

@@ -1,16 +1,8 @@
 -- `offers::process::run_offers` meets its contract: the process starts from tables of zeros. Assumes nothing.
-use native.Mathlib.Omega.{arith}
-use Rattle.round.proofs.Words.{cleared}
 use Rattle.offers.proofs.Sweeps.Known.{places, places-many, places-zero}
 use borrow.Author.Needs.{needs}
 use Rattle.offers.proofs.process.run_offers.Statement.{statement}
 use Rattle.offers.proofs.process.run_offers.Tie as tie
-
-clear-requires : tie.Need-clear-requires
-clear-requires c κs = search needs
-
-clear-requires-2 : tie.Need-clear-requires-2
-clear-requires-2 c κs = search needs
 
 zeros-requires : tie.Need-zeros-requires
 zeros-requires c κs = search needs
@@ -31,19 +23,7 @@ slice-aggregate-sweep-all-2 : tie.Need-slice-aggregate-sweep-all-2
 slice-aggregate-sweep-all-2 c = search (needs, places-many)
 
 sweep-all-requires : tie.Need-sweep-all-requires
-sweep-all-requires c κs =
-    let start : tie.Start = search needs in
-    let first : tie.After-clear = search needs in
-    let second : tie.After-clear2 = search needs in
-    let n = start .args .h .candidates in (
-      search needs,
-      (
-        search places-zero,
-        cleared n _ _ (first .clear .ensures) (omega (arith, start .pre)),
-        cleared n _ _ (second .clear2 .ensures) (omega (arith, start .pre)),
-        search places-many,
-      ),
-    )
+sweep-all-requires c κs = (search needs, (search places-zero, search needs, search needs, search places-many))
 
 settle-requires : tie.Need-settle-requires
 settle-requires c κs = search needs
@@ -61,8 +41,6 @@ pub run-offers-spec : {M : Type 1} → statement M
 run-offers-spec =
     tie.close
     (tie.spec
-    clear-requires
-    clear-requires-2
     zeros-requires
     zeros-requires-2
     array-borrow-prefix-tried

@@ -73,7 +73,9 @@ same-length-7 : tie.Need-same-length-7
 same-length-7 c = search needs
 
 returns-4 : tie.Need-returns-4
-returns-4 c = search (rest-read, arith)
+returns-4 c =
+    let fits = c .before .before .before .before .before .before .before .before .before .before .before .before .before .before .before .before .before .before .before .before .before .before .before .before .before .pre .1 .1 in
+    search (rest-read, fits .0, fits .1, same-length-6 c, same-length-7 c)
 
 same-length-8 : tie.Need-same-length-8
 same-length-8 c = search needs

@@ -3,14 +3,11 @@
 use borrow.Author.Needs.{needs}
 use Rattle.offers.proofs.Sweeps.Known.{at-hand}
 use Rattle.allotment.proofs.Calling.{handed-refused}
-use Rattle.allotment.proofs.call.allot.Statement.{statement}
-use Rattle.allotment.proofs.call.allot.Tie as tie
+use Rattle.allotment.proofs.call.allot_with.Statement.{statement}
+use Rattle.allotment.proofs.call.allot_with.Tie as tie
 
 candidate-table-requires : tie.Need-candidate-table-requires
 candidate-table-requires c κs = search needs
-
-institute-table-requires : tie.Need-institute-table-requires
-institute-table-requires c κs = search needs
 
 slice-aggregate-read-round : tie.Need-slice-aggregate-read-round
 slice-aggregate-read-round c = search needs
@@ -51,12 +48,11 @@ same-length-2 c = search needs
 returns-2 : tie.Need-returns-2
 returns-2 c = search needs
 
-pub allot-spec : {M : Type 1} → statement M
-allot-spec =
+pub allot-with-spec : {M : Type 1} → statement M
+allot-with-spec =
     tie.close
     (tie.spec
     candidate-table-requires
-    institute-table-requires
     slice-aggregate-read-round
     slice-aggregate-read-round-2
     read-round-requires
