@@ -50,11 +50,14 @@ module _ {file : List ℕ} {offers : ℕ} {answer : List ℕ} (known : Answered 
     institutes-many : h .institutes ≡ instituteCount (roundOf file)
     institutes-many = ap (λ (k : Head). k .institutes) same-head ∙ sym (length-institutes file)
 
-    institutes-thousand : h .institutes ≤ 1000
-    institutes-thousand = omega (arith, range .institutes-most, institutes-few (h .form))
+    pub candidates-most : h .candidates ≤ 512
+    candidates-most = range .candidates-most
 
-    size-there : sizeFor form (h .candidates) (h .institutes) ≤ length answer
-    size-there =
+    pub institutes-most : h .institutes ≤ 1000
+    institutes-most = omega (arith, range .institutes-most, institutes-few (h .form))
+
+    pub answer-there : sizeFor form (h .candidates) (h .institutes) ≤ length answer
+    answer-there =
         rw (formed, candidates-many, institutes-many)
         (omega (
           arith,
@@ -62,9 +65,6 @@ module _ {file : List ℕ} {offers : ℕ} {answer : List ℕ} (known : Answered 
           length-append (answerBytes (formOf file) (roundOf file)) (known .rest),
           length-answer (formOf file) (roundOf file),
         ))
-
-    pub answer-there : (h .candidates ≤ 512) × (h .institutes ≤ 1000) × (sizeFor form (h .candidates) (h .institutes) ≤ length answer)
-    answer-there = (range .candidates-most, institutes-thousand, size-there)
 
     seats-few : (i : ℕ) → i < h .candidates → (seatIn form answer i .institute < 10000) × (seatIn form answer i .step < 10)
     seats-few i l =
@@ -76,7 +76,7 @@ module _ {file : List ℕ} {offers : ℕ} {answer : List ℕ} (known : Answered 
     page-fits l few bytes = record {
       room = omega (
         arith,
-        page-short answer (λ i. omega (arith, bytes i)) form (range .candidates-most) institutes-thousand seats-few offers (omega arith),
+        page-short answer (λ i. omega (arith, bytes i)) form candidates-most institutes-most seats-few offers (omega arith),
       );
     }
 

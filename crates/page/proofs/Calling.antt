@@ -92,14 +92,14 @@ module _ {file answer work answerNow workNow : List ℕ} {told : Answer}
     printed-line l few small p = rw (printed-refused (verdict file) refl) (front-put (refusal-fits number offset l few small) p)
 
 -- an input that is read
-pub printed-read : {input area now : List ℕ} {size : ℕ} → length input ≤ 65536 → Front area (printedFor input) now size → Front area (printed input) now size
+pub printed-read : (input : List ℕ) {area now : List ℕ} {size : ℕ} → length input ≤ 65536 → Front area (printedFor input) now size → Front area (printed input) now size
 unfolding printed
-printed-read {input} l p = rw (le-leb (length input) 65536 l) p
+printed-read input l p = rw (le-leb (length input) 65536 l) p
 
 -- one that is not
 pub too-long-fits : {area : List ℕ} → 57344 ≤ length area → Fits area 0 (refusedLine 16 0)
 too-long-fits l = record { room = omega (arith, refusal-short 16 0 (omega arith) (omega arith)) }
 
-pub printed-unread : {input area now : List ℕ} {size : ℕ} → 57344 ≤ length area → 65536 < length input → Put area 0 (refusedLine 16 0) now size
+pub printed-unread : (input : List ℕ) {area now : List ℕ} {size : ℕ} → 57344 ≤ length area → 65536 < length input → Put area 0 (refusedLine 16 0) now size
     → Front area (printed input) now size
-printed-unread {input} l m p = rw (printed-long input m) (front-put (too-long-fits l) p)
+printed-unread input l m p = rw (printed-long input m) (front-put (too-long-fits l) p)

@@ -1,7 +1,7 @@
--- The head is read again, and the page off the answer area.
+-- The form and the head are read again, and the page off the answer area.
 -- Assumes nothing.
 use borrow.Author.Needs.{needs}
-use Rattle.page.proofs.Answering.{head-there, answer-there, page-fits, answered-front}
+use Rattle.page.proofs.Answering.{head-there, candidates-most, institutes-most, answer-there, page-fits, answered-front}
 use Rattle.page.proofs.call.put_answered.Statement.{statement}
 use Rattle.page.proofs.call.put_answered.Tie as tie
 
@@ -18,7 +18,7 @@ head-in-requires : tie.Need-head-in-requires
 head-in-requires c κs = search needs
 
 put-allotment-requires : tie.Need-put-allotment-requires
-put-allotment-requires c κs = (search (needs, answer-there), search (needs, page-fits))
+put-allotment-requires c κs = ((search (needs, candidates-most), search (needs, institutes-most), search (needs, answer-there)), search (needs, page-fits))
 
 same-length : tie.Need-same-length
 same-length c = search needs

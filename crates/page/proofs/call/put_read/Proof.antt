@@ -2,8 +2,8 @@
 -- Assumes nothing.
 use borrow.Author.Needs.{needs}
 use Rattle.page.proofs.Calling.{answered, printed-page, printed-line, refusal-fits}
-use Rattle.page.proofs.call.put_page.Statement.{statement}
-use Rattle.page.proofs.call.put_page.Tie as tie
+use Rattle.page.proofs.call.put_read.Statement.{statement}
+use Rattle.page.proofs.call.put_read.Tie as tie
 
 answer-room-requires : tie.Need-answer-room-requires
 answer-room-requires c κs = search needs
@@ -47,8 +47,8 @@ same-length-2 c = search needs
 returns-2 : tie.Need-returns-2
 returns-2 c = search (needs, printed-line)
 
-pub put-page-spec : {M : Type 1} → statement M
-put-page-spec =
+pub put-read-spec : {M : Type 1} → statement M
+put-read-spec =
     tie.close
     (tie.spec
     answer-room-requires
