@@ -1,8 +1,11 @@
 -- `probe::tazbilk_verdict` meets its contract: each case of the reader's answer stands for the verdict that it promises.
 -- Assumes nothing.
 use mathlib.Core.Path.{ap, sym, _∙_}
+use native.Mathlib.Omega.{arith}
 use borrow.Author.Needs.{needs}
+use Rattle.round.specs.Records.{formOf}
 use Rattle.round.specs.Outcome.{verdictOf}
+use Rattle.round.proofs.Forms.{institutes-few}
 use Rattle.probe.specs.Probe.{verdictIn}
 use Rattle.probe.proofs.tazbilk_verdict.Statement.{statement}
 use Rattle.probe.proofs.tazbilk_verdict.Tie as tie
@@ -10,8 +13,8 @@ use Rattle.probe.proofs.tazbilk_verdict.Tie as tie
 candidate-table-requires : tie.Need-candidate-table-requires
 candidate-table-requires c κs = search needs
 
-institute-table-requires : tie.Need-institute-table-requires
-institute-table-requires c κs = search needs
+wide-table-requires : tie.Need-wide-table-requires
+wide-table-requires c κs = search needs
 
 slice-aggregate-read-round : tie.Need-slice-aggregate-read-round
 slice-aggregate-read-round c = search needs
@@ -20,7 +23,9 @@ slice-aggregate-read-round-2 : tie.Need-slice-aggregate-read-round-2
 slice-aggregate-read-round-2 c = search needs
 
 read-round-requires : tie.Need-read-round-requires
-read-round-requires c κs = search needs
+read-round-requires c κs =
+    let start : tie.Start = search needs in
+    (search needs, omega (arith, institutes-few (formOf (start .args .file .now))))
 
 enum-told : tie.Need-enum-told
 enum-told c = search needs
@@ -55,7 +60,7 @@ tazbilk-verdict-spec =
     tie.close
     (tie.spec
     candidate-table-requires
-    institute-table-requires
+    wide-table-requires
     slice-aggregate-read-round
     slice-aggregate-read-round-2
     read-round-requires
