@@ -3,17 +3,19 @@ use Prim.Native.Nat.{ℕ, _+_, _*_, _<_, _≤_}
 use mathlib.Core.Path.{_≡_}
 use mathlib.Core.List.{List}
 use native.Mathlib.Omega.{arith}
-use lib.ListN.{getD}
+use lib.ListN.{length, getD}
 use Rattle.round.specs.Lists.{tabulate, joined}
 use Rattle.round.specs.Records.{word}
 use Rattle.round.specs.declared.form.Form.{Form}
 use Rattle.round.specs.declared.form.Form.the-variants.{Narrow, Wide}
 use Rattle.round.specs.Form.{seatWidth}
 use Rattle.offers.specs.Areas.{seatIn}
+use Rattle.offers.proofs.SeatBytes.{seat-within}
 use Rattle.allotment.specs.Areas.{sizeFor}
+use Rattle.allotment.proofs.Files.AreaSeats.{size-parts}
 use Rattle.text.specs.Decimal.{nextNumber}
 use Rattle.text.specs.Put.{Fits, Put}
-use Rattle.text.proofs.Putting.{put-none, fits-piece, put-piece, put-all}
+use Rattle.text.proofs.Putting.{fits-piece, put-piece, put-all}
 use Rattle.page.specs.Page.{seatLine, sixPlaces, closingLine}
 use Rattle.page.specs.Reads.{placeIn, seatLines, closingLines}
 
@@ -58,14 +60,20 @@ pub seat-more : (form : Form) (answer : List ℕ) (types i : ℕ) {page mid now 
     → Put page at (joined (tabulate (i + 1) (seatText form answer types))) now behind
 seat-more form answer types i p q = put-piece (seatText form answer types) i p q
 
--- the bytes of candidate i's seat and type stand in an answer area, where the types stand behind the seats and the closing places
-pub seat-there : (form : Form) (n m i size : ℕ) → i < n → sizeFor form n m ≤ size
-    → (seatWidth form * i + seatWidth form ≤ size) × (seatWidth form * n + 12 * m + i < size)
-seat-there Narrow n m i size l k = (omega arith, omega arith)
-seat-there Wide n m i size l k = (omega arith, omega arith)
+-- the seats of the largest round have 2,048 bytes
+pub seats-most : (form : Form) (n : ℕ) → n ≤ 512 → seatWidth form * n ≤ 2048
+seats-most Narrow n l = omega arith
+seats-most Wide n l = omega arith
+
+-- the bytes of candidate i's seat stand in an answer area
+pub seat-there : (form : Form) (n m i : ℕ) {size : ℕ} → i < n → sizeFor form n m ≤ size → seatWidth form * i + seatWidth form ≤ size
+seat-there form n m i l k = omega (arith, seat-within form n i l, size-parts form n m)
 
 -- the types stand behind the seats and the closing places
 module _ (form : Form) (answer : List ℕ) {types : ℕ} (candidates institutes : ℕ) (behind-both : types ≡ seatWidth form * candidates + 12 * institutes) where
+  pub type-there : (i : ℕ) → i < candidates → sizeFor form candidates institutes ≤ length answer → types + i < length answer
+  type-there i l k = omega (arith, size-parts form candidates institutes)
+
   pub seat-fits : (i : ℕ) {page mid : List ℕ} {at next : ℕ} → Fits page at (seatLines form answer candidates institutes) → i < candidates
       → Put page at (joined (tabulate i (seatText form answer types))) mid next → Fits mid next (seatText form answer types i)
   unfolding seatLines
@@ -76,31 +84,26 @@ module _ (form : Form) (answer : List ℕ) {types : ℕ} (candidates institutes 
   unfolding seatLines
   seats-put p l m = rw behind-both at (put-all (seatText form answer types) p l m)
 
--- the line of an institute whose closing places stand in an answer area
-abbrev closingText : Form → List ℕ → ℕ → ℕ → List ℕ
-closingText form answer candidates j = closingLine (j + 1) (placeIn answer (seatWidth form * candidates + 12 * j))
+-- the line of an institute whose closing places stand in an answer area, where all of them stand from a byte on
+abbrev pub closingText : List ℕ → ℕ → ℕ → List ℕ
+closingText answer closings j = closingLine (j + 1) (placeIn answer (closings + 12 * j))
 
--- the bytes of institute j's closing places stand in an answer area
-pub closing-there : (form : Form) (n m j size : ℕ) → j < m → sizeFor form n m ≤ size → seatWidth form * n + 12 * j + 12 ≤ size
-closing-there Narrow n m j size l k = omega arith
-closing-there Wide n m j size l k = omega arith
+pub closing-more : (answer : List ℕ) (closings j : ℕ) {page mid now : List ℕ} {at next behind : ℕ}
+    → Put page at (joined (tabulate j (closingText answer closings))) mid next → Put mid next (closingText answer closings j) now behind
+    → Put page at (joined (tabulate (j + 1) (closingText answer closings))) now behind
+closing-more answer closings j p q = put-piece (closingText answer closings) j p q
 
-module _ (form : Form) (answer : List ℕ) (candidates : ℕ) where
-  pub no-closings : (page : List ℕ) (at : ℕ) → Put page at (closingLines form answer candidates 0) page at
+-- the closing places stand behind the seats
+module _ (form : Form) (answer : List ℕ) {closings : ℕ} (candidates institutes : ℕ) (behind-seats : closings ≡ seatWidth form * candidates) where
+  pub closing-there : (j : ℕ) → j < institutes → sizeFor form candidates institutes ≤ length answer → closings + 12 * j + 12 ≤ length answer
+  closing-there j l k = omega (arith, size-parts form candidates institutes)
+
+  pub closing-fits : (j : ℕ) {page mid : List ℕ} {at next : ℕ} → Fits page at (closingLines form answer candidates institutes) → j < institutes
+      → Put page at (joined (tabulate j (closingText answer closings))) mid next → Fits mid next (closingText answer closings j)
   unfolding closingLines
-  no-closings page at = put-none page at
+  closing-fits j room l p = fits-piece (closingText answer closings) institutes j l (rw behind-seats room) p
 
-  pub closing-fits : (j : ℕ) {page mid : List ℕ} {at next m : ℕ} → Fits page at (closingLines form answer candidates m) → j < m
-      → Put page at (closingLines form answer candidates j) mid next → Fits mid next (closingText form answer candidates j)
+  pub closings-put : {page now : List ℕ} {at behind j : ℕ} → Put page at (joined (tabulate j (closingText answer closings))) now behind
+      → j ≤ institutes → institutes ≤ j → Put page at (closingLines form answer candidates institutes) now behind
   unfolding closingLines
-  closing-fits j {m = m} room l p = fits-piece (closingText form answer candidates) m j l room p
-
-  pub closing-more : (j : ℕ) {page mid now : List ℕ} {at next behind : ℕ} → Put page at (closingLines form answer candidates j) mid next
-      → Put mid next (closingText form answer candidates j) now behind → Put page at (closingLines form answer candidates (j + 1)) now behind
-  unfolding closingLines
-  closing-more j p q = put-piece (closingText form answer candidates) j p q
-
-  pub closings-put : {page now : List ℕ} {at behind j m : ℕ} → Put page at (closingLines form answer candidates j) now behind
-      → j ≤ m → m ≤ j → Put page at (closingLines form answer candidates m) now behind
-  unfolding closingLines
-  closings-put p l m = put-all (closingText form answer candidates) p l m
+  closings-put p l m = rw behind-seats at (put-all (closingText answer closings) p l m)

@@ -5,6 +5,9 @@ use Rattle.page.proofs.Answering.{head-there, candidates-most, institut
 use Rattle.page.proofs.call.put_answered.Statement.{statement}
 use Rattle.page.proofs.call.put_answered.Tie as tie
 
+form-of-requires : tie.Need-form-of-requires
+form-of-requires c κs = search needs
+
 sub-head-in : tie.Need-sub-head-in
 sub-head-in c = search needs
 
@@ -30,6 +33,7 @@ pub put-answered-spec : {M : Type 1} → statement M
 put-answered-spec =
     tie.close
     (tie.spec
+    form-of-requires
     sub-head-in
     part-head-in-start
     part-head-in-end
