@@ -1,9 +1,12 @@
-// The worked rounds of document 01, in its order, and two more that its words fix: the page of each is printed.
+// The worked rounds of document 01, in its order, two more that its words fix, and for document 02, Point 6, file A in the wide form and the longest
+// input that is read with one that is too long: what is printed for each.
 use libc::STDOUT_FILENO;
 use page::page_room;
 use page::put_page;
+ghost use mathlib.Core.Path.{_≡_};
+ghost use lib.ListN.{length};
 
-// Prints the page of a round.
+// Prints what is printed for an input.
 fn show(file: &[u8]) {
     let mut page = page_room();
     let length = put_page(&mut page, file);
@@ -104,6 +107,29 @@ fn taken_as_open_not_obc() {
     );
 }
 
+fn a_wide() {
+    show(
+        b"\x08\x00\x05\x00\x03\x00\x01\x00\x01\x00\x01\x00\x14\x00\x02\x00\x01\x00\x01\x00\x00\x00\x00\x00\x00\x00\x00\x00\x01\x00\x00\x00\x00\x00\x00\x00\x05\x00\x06\x00\x00\x00\x01\x00\x00\x08\x00\x06\x00\x03\x00\x01\x00\x00\x01\x00\x03\x05\x00\x06\x00\x00\x01\x01\x00\x00\x06\x00\x04\x00\x01\x00\x02\x00\x03\x00",
+    );
+}
+
+// Zero bytes, one more than the program reads.
+fn zeros() -> [u8; 65537]
+    ensures { λ r. ⌜ length r ≡ 65537 ⌝ }
+{
+    [0; 65537]
+}
+
+fn too_long() {
+    let input = zeros();
+    show(&input);
+}
+
+fn just_read() {
+    let input = zeros();
+    show(&input[..65536]);
+}
+
 fn main() {
     file_a();
     a_open_only();
@@ -121,4 +147,7 @@ fn main() {
     obc_and_last_merit_2();
     type_without_positions();
     taken_as_open_not_obc();
+    a_wide();
+    just_read();
+    too_long();
 }
