@@ -30,24 +30,26 @@ module _ {file : List ℕ} {h : CodeHead} {candidates merits : List ℕ} (hand :
   work-size : workSize (roundOf file) ≡ 8 * h .candidates
   work-size = omega (arith, candidates-many hand)
 
-  pub answer-fits : {size : ℕ} → sizeFor (h .form) (h .candidates) (h .institutes) ≤ size → answerSize (formOf file) (roundOf file) ≤ size
-  answer-fits l = omega (arith, answer-size)
+  pub answer-fits : {asked size : ℕ} → asked ≡ sizeFor (h .form) (h .candidates) (h .institutes) → asked ≤ size → answerSize (formOf file) (roundOf file) ≤ size
+  answer-fits e l = omega (arith, e, answer-size)
 
   module _ {answer work : List ℕ} where
-    pub answer-small : length answer < sizeFor (h .form) (h .candidates) (h .institutes) → Promise file answer work (Refused 14 0) answer work
-    answer-small l = promise-answer-small file answer work (hand .passing) (omega (arith, answer-size))
+    pub answer-small : {asked : ℕ} → asked ≡ sizeFor (h .form) (h .candidates) (h .institutes) → length answer < asked
+        → Promise file answer work (Refused 14 0) answer work
+    answer-small e l = promise-answer-small file answer work (hand .passing) (omega (arith, e, answer-size))
 
     pub work-small : length work < 8 * h .candidates → Promise file answer work (Refused 14 0) answer work
     work-small l = promise-work-small file answer work (hand .passing) (omega (arith, work-size))
 
-    pub all-well : {offers : ℕ} {answerNow workNow : List ℕ} → sizeFor (h .form) (h .candidates) (h .institutes) ≤ length answer → 8 * h .candidates ≤ length work
+    pub all-well : {asked offers : ℕ} {answerNow workNow : List ℕ} → asked ≡ sizeFor (h .form) (h .candidates) (h .institutes)
+        → asked ≤ length answer → 8 * h .candidates ≤ length work
         → offers ≡ offersMade (roundOf file)
         → answerNow ≡ answerBytes (formOf file) (roundOf file) ++ drop (answerSize (formOf file) (roundOf file)) answer
         → workNow ≡ replicate (8 * h .candidates) 0 ++ drop (8 * h .candidates) work
         → Promise file answer work (Allotted offers) answerNow workNow
-    all-well {offers} {answerNow} {workNow} l m told seen cleared =
+    all-well {asked} {offers} {answerNow} {workNow} e l m told seen cleared =
         rw told
-        (promise-allotted file answer work (hand .passing) (omega (arith, answer-size)) (omega (arith, work-size)) answerNow workNow seen
+        (promise-allotted file answer work (hand .passing) (omega (arith, e, answer-size)) (omega (arith, work-size)) answerNow workNow seen
         (rw work-size cleared))
 
 -- a file that was asked about

@@ -7,6 +7,7 @@ use lib.ListN.{length, getD, drop, length-append}
 use lib.Seq.{sets, ext-getD}
 use Rattle.round.specs.Lists.{tabulate, joined}
 use Rattle.round.specs.declared.form.Form.{Form}
+use Rattle.round.specs.declared.form.Form.the-variants.{Narrow, Wide}
 use Rattle.round.specs.Form.{seatWidth}
 use Rattle.round.specs.Round.{Round}
 use Rattle.round.specs.declared.head.Head.{Head as CodeHead}
@@ -74,6 +75,13 @@ module _ {file : List ℕ} {h : CodeHead} {merits holders steps types : List ℕ
       let range = head-fits file (passed file (known .closing .accepted)) .institutes-most in
       rw (← form-known) (omega (arith, at, seat-few (sound file (known .closing .accepted)) i inside, length-institutes file, range))
 
+  pub seats-few : seatWidth (h .form) * length holders ≤ 2048
+  seats-few = by-form (h .form)
+    where
+      by-form : (form : Form) → seatWidth form * length holders ≤ 2048
+      by-form Narrow = omega (arith, holders-few)
+      by-form Wide = omega (arith, holders-few)
+
   types-many : length types ≡ candidateCount r
   types-many = ap length (known .closing .typed) ∙ types-length r
 
@@ -88,12 +96,13 @@ module _ {file : List ℕ} {h : CodeHead} {merits holders steps types : List ℕ
   pub seats-room : {size : ℕ} → answerSize (formOf file) r ≤ size → seatWidth (h .form) * length holders ≤ size
   seats-room l = omega (arith, size-known)
 
-  pub closings-room : {size after : ℕ} → after ≡ size → answerSize (formOf file) r ≤ size → seatWidth (h .form) * length holders + 12 * h .institutes ≤ after
-  closings-room e l = omega (arith, size-known)
+  module _ {behind : ℕ} (seated : behind ≡ seatWidth (h .form) * length holders) where
+    pub closings-room : {size after : ℕ} → after ≡ size → answerSize (formOf file) r ≤ size → behind + 12 * h .institutes ≤ after
+    closings-room e l = omega (arith, seated, size-known)
 
-  pub types-room : {size mid after : ℕ} → mid ≡ size → after ≡ mid → answerSize (formOf file) r ≤ size
-      → seatWidth (h .form) * length holders + 12 * h .institutes + length types ≤ after
-  types-room e f l = omega (arith, size-known)
+    pub types-room : {size mid after : ℕ} → mid ≡ size → after ≡ mid → answerSize (formOf file) r ≤ size
+        → behind + 12 * h .institutes + length types ≤ after
+    types-room e f l = omega (arith, seated, size-known)
 
   -- the three parts together
   parts : heldBytes (h .form) holders steps ++ joined (tabulate (h .institutes) (closingBytes r)) ++ types ≡ answerBytes (formOf file) r

@@ -36,8 +36,8 @@ form-in file =
     rw (four, low, high)
   where
     go : (b : Bool) → leb 4 (length file) ≡ b → leb 4 (length (take (4 + lengthAt file 0) file)) ≡ leb 4 (length file)
-    go true e = rw e (le-leb 4 _ (omega (arith, leb-true 4 (length file) e, length-take (4 + lengthAt file 0) file)))
-    go false e = rw e (lt-leb 4 _ (omega (arith, leb-false 4 (length file) e, length-take (4 + lengthAt file 0) file)))
+    go true e = rw e (le-leb 4 (length (take (4 + lengthAt file 0) file)) (omega (arith, leb-true 4 (length file) e, length-take (4 + lengthAt file 0) file)))
+    go false e = rw e (lt-leb 4 (length (take (4 + lengthAt file 0) file)) (omega (arith, leb-false 4 (length file) e, length-take (4 + lengthAt file 0) file)))
 
 pub same-form : (file other : List ℕ) → recordOf file 0 ≡ recordOf other 0 → formOf file ≡ formOf other
 same-form file other e = form-in file ∙ (ap formOf e ∙ sym (form-in other))

@@ -2,15 +2,15 @@
 -- Assumes nothing.
 use native.Mathlib.Omega.{arith}
 use borrow.Author.Needs.{needs}
-use Rattle.allotment.proofs.Files.Answering.{as-many, institutes-known, seats-room, closings-room, types-room, holders-few, institutes-few, answer-put}
+use Rattle.allotment.proofs.Files.Answering.{as-many, institutes-known, holders-small, seats-few, seats-room, closings-room, types-room, holders-few, institutes-few, answer-put}
 use Rattle.allotment.proofs.areas.write_answer.Statement.{statement}
 use Rattle.allotment.proofs.areas.write_answer.Tie as tie
 
-mul-closings : tie.Need-mul-closings
-mul-closings c = search needs
+seats-size-requires : tie.Need-seats-size-requires
+seats-size-requires c κs = search holders-few
 
 write-seats-requires : tie.Need-write-seats-requires
-write-seats-requires c κs = (search as-many, search seats-room)
+write-seats-requires c κs = ((search as-many, search holders-few), (search holders-small, search seats-room))
 
 write-closings-requires : tie.Need-write-closings-requires
 write-closings-requires c κs = (search needs, (search institutes-known, search (needs, closings-room)))
@@ -19,7 +19,7 @@ mul-write-types : tie.Need-mul-write-types
 mul-write-types c = omega (arith, institutes-few)
 
 add-write-types : tie.Need-add-write-types
-add-write-types c = let start : tie.Start = search needs in omega (arith, holders-few (start .pre .0), institutes-few (start .pre .0))
+add-write-types c = let start : tie.Start = search needs in omega (arith, seats-few (start .pre .0), institutes-few (start .pre .0))
 
 write-types-requires : tie.Need-write-types-requires
 write-types-requires c κs = search (needs, types-room)
@@ -34,7 +34,7 @@ pub write-answer-spec : {M : Type 1} → statement M
 write-answer-spec =
     tie.close
     (tie.spec
-    mul-closings
+    seats-size-requires
     write-seats-requires
     write-closings-requires
     mul-write-types

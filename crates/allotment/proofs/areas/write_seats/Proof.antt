@@ -1,45 +1,39 @@
--- The seats are stored, two bytes each. The invariant: the area with the seats passed put in from the front.
+-- The seats are stored one after the other. The invariant: the area with the seats passed put in from the front.
 -- Assumes nothing.
 use borrow.Author.Needs.{needs}
 use Prim.Native.Nat.{_≤_, _-_}
 use mathlib.Core.Path.{_≡_, refl}
 use native.Mathlib.Omega.{arith}
-use lib.ListN.{length, length-set}
+use lib.ListN.{length}
 use lib.Seq.{sets}
 use Rattle.round.specs.Lists.{tabulate, joined}
-use Rattle.allotment.proofs.Files.Putting.{heldPieces, seat-more, seats-put}
+use Rattle.allotment.proofs.Files.Putting.{heldPieces, seat-more, seat-room, holder-few, seats-put}
 use Rattle.allotment.proofs.areas.write_seats.Statement.{statement}
 use Rattle.allotment.proofs.areas.write_seats.Tie as tie
 
 abbrev Inv-loop : tie.InvT-loop
-Inv-loop holders steps area₀ i₀ i-end area i = (i ≤ i-end) × (i-end ≡ length holders) × (length area ≡ length area₀) × (area ≡ sets area₀ 0 (joined (tabulate i (heldPieces holders steps))))
+Inv-loop form holders steps area₀ i₀ i-end area i = (i ≤ i-end) × (i-end ≡ length holders) × (length area ≡ length area₀) × (area ≡ sets area₀ 0 (joined (tabulate i (heldPieces form holders steps))))
 
 abbrev μ-loop : tie.MeasureT-loop
-μ-loop holders steps area₀ i₀ i-end area i = i-end - i
+μ-loop form holders steps area₀ i₀ i-end area i = i-end - i
 
 loop-holds : tie.Need-loop-holds Inv-loop μ-loop
 loop-holds c = (omega arith, refl, refl, refl)
 
-shared-slice-read-area : tie.Need-shared-slice-read-area Inv-loop μ-loop
-shared-slice-read-area c = search needs
+mul-long : tie.Need-mul-long Inv-loop μ-loop
+mul-long c = search needs
 
-mul-area : tie.Need-mul-area Inv-loop μ-loop
-mul-area c = search needs
+shared-slice-read-long : tie.Need-shared-slice-read-long Inv-loop μ-loop
+shared-slice-read-long c = search needs
 
-slice-write-area : tie.Need-slice-write-area Inv-loop μ-loop
-slice-write-area c = search needs
+long-requires : tie.Need-long-requires Inv-loop μ-loop
+long-requires c κs = search needs
 
-shared-slice-read-area-2 : tie.Need-shared-slice-read-area-2 Inv-loop μ-loop
-shared-slice-read-area-2 c = search needs
+shared-slice-read-write-seat : tie.Need-shared-slice-read-write-seat Inv-loop μ-loop
+shared-slice-read-write-seat c = search needs
 
-mul-area-2 : tie.Need-mul-area-2 Inv-loop μ-loop
-mul-area-2 c = search needs
-
-add-area : tie.Need-add-area Inv-loop μ-loop
-add-area c = search needs
-
-slice-write-area-2 : tie.Need-slice-write-area-2 Inv-loop μ-loop
-slice-write-area-2 c = simp length-set (omega arith)
+write-seat-requires : tie.Need-write-seat-requires Inv-loop μ-loop
+write-seat-requires c κs = ((search (needs, seat-room), search (needs, holder-few)), omega arith)
 
 add-i : tie.Need-add-i Inv-loop μ-loop
 add-i c = search needs
@@ -48,7 +42,16 @@ loop-less : tie.Need-loop-less Inv-loop μ-loop
 loop-less c = search needs
 
 loop-again : tie.Need-loop-again Inv-loop μ-loop
-loop-again c = (omega arith, refl, simp length-set (search needs), search (needs, seat-more))
+loop-again c =
+    let start : tie.Start Inv-loop μ-loop = search needs in
+    let at : tie.At-loop Inv-loop μ-loop = search needs in
+    let written : tie.After-write-seat Inv-loop μ-loop = search needs in
+    let read : tie.After-long Inv-loop μ-loop = search needs in (
+      omega arith,
+      refl,
+      search needs,
+      seat-more (start .args .form) (start .args .holders .now) (start .args .steps .now) _ (at .loop .i) (read .long .ensures .0) refl (written .write-seat .ensures) (at .loop .inv .3) (omega arith),
+    )
 
 same-length : tie.Need-same-length Inv-loop μ-loop
 same-length c = search needs
@@ -63,13 +66,11 @@ write-seats-spec =
     Inv-loop
     μ-loop
     loop-holds
-    shared-slice-read-area
-    mul-area
-    slice-write-area
-    shared-slice-read-area-2
-    mul-area-2
-    add-area
-    slice-write-area-2
+    mul-long
+    shared-slice-read-long
+    long-requires
+    shared-slice-read-write-seat
+    write-seat-requires
     add-i
     loop-less
     loop-again

@@ -2,19 +2,13 @@
 -- Assumes nothing.
 use borrow.Author.Needs.{needs}
 use native.Mathlib.Omega.{arith}
-use Rattle.offers.proofs.Sweeps.Known.{candidates-few, institutes-few, places, places-many}
+use Rattle.offers.proofs.Sweeps.Known.{candidates-few, institutes-few, places, places-many, places-zero}
 use Rattle.allotment.proofs.Calling.{answer-fits, answer-small, work-small, all-well}
 use Rattle.allotment.proofs.call.allot_round.Statement.{statement}
 use Rattle.allotment.proofs.call.allot_round.Tie as tie
 
-mul-if1 : tie.Need-mul-if1
-mul-if1 c = omega (arith, candidates-few)
-
-mul-if1-2 : tie.Need-mul-if1-2
-mul-if1-2 c = omega (arith, institutes-few)
-
-add-if1 : tie.Need-add-if1
-add-if1 c = let start : tie.Start = search needs in omega (arith, candidates-few (start .pre), institutes-few (start .pre))
+answer-size-requires : tie.Need-answer-size-requires
+answer-size-requires c κs = (search candidates-few, search institutes-few)
 
 returns : tie.Need-returns
 returns c = search (needs, answer-small)
@@ -25,14 +19,14 @@ mul-if2 c = omega (arith, candidates-few)
 returns-2 : tie.Need-returns-2
 returns-2 c = search (needs, work-small)
 
+nobody-requires : tie.Need-nobody-requires
+nobody-requires c κs = search needs
+
 zeros-requires : tie.Need-zeros-requires
 zeros-requires c κs = search needs
 
 zeros-requires-2 : tie.Need-zeros-requires-2
 zeros-requires-2 c κs = search needs
-
-zeros-requires-3 : tie.Need-zeros-requires-3
-zeros-requires-3 c κs = search needs
 
 array-borrow-prefix-holders : tie.Need-array-borrow-prefix-holders
 array-borrow-prefix-holders c = search (needs, places)
@@ -53,10 +47,10 @@ slice-aggregate-seat-all-3 : tie.Need-slice-aggregate-seat-all-3
 slice-aggregate-seat-all-3 c = search (needs, places-many)
 
 seat-all-requires : tie.Need-seat-all-requires
-seat-all-requires c κs = (search needs, ((search places-many, search places-many, search places-many), search (needs, answer-fits)))
+seat-all-requires c κs = (search needs, ((search places-zero, search places-zero, search places-many), search (needs, answer-fits)))
 
 mul-clear : tie.Need-mul-clear
-mul-clear c = search needs
+mul-clear c = omega (arith, candidates-few)
 
 clear-requires : tie.Need-clear-requires
 clear-requires c κs = search needs
@@ -74,15 +68,13 @@ pub allot-round-spec : {M : Type 1} → statement M
 allot-round-spec =
     tie.close
     (tie.spec
-    mul-if1
-    mul-if1-2
-    add-if1
+    answer-size-requires
     returns
     mul-if2
     returns-2
+    nobody-requires
     zeros-requires
     zeros-requires-2
-    zeros-requires-3
     array-borrow-prefix-holders
     slice-aggregate-seat-all
     array-borrow-prefix-steps

@@ -12,9 +12,6 @@ candidate-table-requires c κs = search needs
 slice-aggregate-read-round : tie.Need-slice-aggregate-read-round
 slice-aggregate-read-round c = search needs
 
-slice-aggregate-read-round-2 : tie.Need-slice-aggregate-read-round-2
-slice-aggregate-read-round-2 c = search needs
-
 read-round-requires : tie.Need-read-round-requires
 read-round-requires c κs = search needs
 
@@ -27,23 +24,26 @@ enum-told c = search needs
 handed-requires : tie.Need-handed-requires
 handed-requires c κs = search needs
 
+same-length : tie.Need-same-length
+same-length c = search needs
+
 returns : tie.Need-returns
 returns c = search (needs, handed-refused)
 
 slice-aggregate-allot-round : tie.Need-slice-aggregate-allot-round
 slice-aggregate-allot-round c = search needs
 
-slice-aggregate-allot-round-2 : tie.Need-slice-aggregate-allot-round-2
-slice-aggregate-allot-round-2 c = search needs
-
 allot-round-requires : tie.Need-allot-round-requires
 allot-round-requires c κs = search (needs, at-hand)
 
-same-length : tie.Need-same-length
-same-length c = search needs
-
 same-length-2 : tie.Need-same-length-2
 same-length-2 c = search needs
+
+same-length-3 : tie.Need-same-length-3
+same-length-3 c = search needs
+
+same-length-4 : tie.Need-same-length-4
+same-length-4 c = search needs
 
 returns-2 : tie.Need-returns-2
 returns-2 c = search needs
@@ -54,15 +54,15 @@ allot-with-spec =
     (tie.spec
     candidate-table-requires
     slice-aggregate-read-round
-    slice-aggregate-read-round-2
     read-round-requires
     enum-known-got
     enum-told
     handed-requires
+    same-length
     returns
     slice-aggregate-allot-round
-    slice-aggregate-allot-round-2
     allot-round-requires
-    same-length
     same-length-2
+    same-length-3
+    same-length-4
     returns-2)

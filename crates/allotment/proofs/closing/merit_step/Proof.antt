@@ -22,11 +22,14 @@ module _ (holders steps types : List ℕ) (i institute : ℕ) {x : ℕ} (holder 
     by-merit : getD types i 0 ≡ 0 → {y : ℕ} → y ≡ getD steps i 0 → y ≡ meritStep holders steps types institute i
     by-merit z e = rw (eq-eqb (getD holders i 0) institute (sym holder ∙ here), eq-eqb (getD types i 0) 0 z) e
 
-shared-slice-read-wide : tie.Need-shared-slice-read-wide
-shared-slice-read-wide c = search needs
+mul-long : tie.Need-mul-long
+mul-long c = search needs
 
-wide-requires : tie.Need-wide-requires
-wide-requires c κs = search needs
+shared-slice-read-long : tie.Need-shared-slice-read-long
+shared-slice-read-long c = search needs
+
+long-requires : tie.Need-long-requires
+long-requires c κs = search needs
 
 returns : tie.Need-returns
 returns c = search elsewhere
@@ -37,11 +40,11 @@ shared-slice-read-if2 c = search needs
 returns-2 : tie.Need-returns-2
 returns-2 c = search with-type
 
-shared-slice-read-wide-2 : tie.Need-shared-slice-read-wide-2
-shared-slice-read-wide-2 c = search needs
+shared-slice-read-wide : tie.Need-shared-slice-read-wide
+shared-slice-read-wide c = search needs
 
-wide-requires-2 : tie.Need-wide-requires-2
-wide-requires-2 c κs = search needs
+wide-requires : tie.Need-wide-requires
+wide-requires c κs = search needs
 
 returns-3 : tie.Need-returns-3
 returns-3 c = search by-merit
@@ -50,11 +53,12 @@ pub merit-step-spec : {M : Type 1} → statement M
 merit-step-spec =
     tie.close
     (tie.spec
-    shared-slice-read-wide
-    wide-requires
+    mul-long
+    shared-slice-read-long
+    long-requires
     returns
     shared-slice-read-if2
     returns-2
-    shared-slice-read-wide-2
-    wide-requires-2
+    shared-slice-read-wide
+    wide-requires
     returns-3)
