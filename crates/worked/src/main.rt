@@ -1,5 +1,5 @@
-// The worked rounds of document 01, in its order, two more that its words fix, and for document 02, Point 6, file A in the wide form and the longest
-// input that is read with one that is too long: what is printed for each.
+// The worked rounds of document 01, in its order, and two more that its words fix; then, for document 02, Point 6, file A in the wide form, an input of
+// 65,536 bytes and one of a byte more: what is printed for each.
 use libc::STDOUT_FILENO;
 use page::page_room;
 use page::put_page;
@@ -113,21 +113,28 @@ fn a_wide() {
     );
 }
 
-// Zero bytes, one more than the program reads.
-fn zeros() -> [u8; 65537]
+// As many zero bytes as the program reads.
+fn zeros() -> [u8; 65536]
+    ensures { λ r. ⌜ length r ≡ 65536 ⌝ }
+{
+    [0; 65536]
+}
+
+// One more.
+fn zeros_more() -> [u8; 65537]
     ensures { λ r. ⌜ length r ≡ 65537 ⌝ }
 {
     [0; 65537]
 }
 
-fn too_long() {
+fn longest_read() {
     let input = zeros();
     show(&input);
 }
 
-fn just_read() {
-    let input = zeros();
-    show(&input[..65536]);
+fn too_long() {
+    let input = zeros_more();
+    show(&input);
 }
 
 fn main() {
@@ -148,6 +155,6 @@ fn main() {
     type_without_positions();
     taken_as_open_not_obc();
     a_wide();
-    just_read();
+    longest_read();
     too_long();
 }
