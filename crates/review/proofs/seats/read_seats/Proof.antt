@@ -5,7 +5,7 @@ use mathlib.Core.Logic.{⊎-elim}
 use native.Mathlib.Omega.{arith}
 use Rattle.choice.proofs.Steps.{sized}
 use Rattle.round.specs.Reading.{roundOf}
-use Rattle.review.specs.Outcome.{listOf}
+use Rattle.review.specs.Outcome.{listFor}
 use Rattle.review.specs.Tables.{SeatsRead}
 use Rattle.review.proofs.SeatsReading.{none-read, one-skipped, one-read, row-step-least, asked-long, wanted-long, all-read}
 use borrow.Author.Needs.{needs}
@@ -14,7 +14,7 @@ use Rattle.review.proofs.seats.read_seats.Tie as tie
 
 abbrev Inv-loop : tie.InvT-loop
 Inv-loop file h candidates merits list asked₀ wanted₀ i₀ i-end asked wanted i =
-    (i ≤ i-end) × (i-end ≡ h .candidates) × SeatsRead (roundOf file) (listOf (roundOf file) list) i asked wanted
+    (i ≤ i-end) × (i-end ≡ h .candidates) × SeatsRead (roundOf file) (listFor file list) i asked wanted
 
 abbrev μ-loop : tie.MeasureT-loop
 μ-loop file h candidates merits list asked₀ wanted₀ i₀ i-end asked wanted i = i-end - i
