@@ -1,3 +1,4 @@
 pub mod Market
 pub mod Rounds
 pub mod Sweeps
+pub mod SeatBytes

@@ -97,11 +97,11 @@ pub zeros-room : (n : ℕ) (l : List ℕ) → l ≡ replicate n 0 → n ≤ leng
 zeros-room n l e = omega (arith, sized n e)
 
 -- a table with room for the most institutes of the form
-pub narrow-room : {file table : List ℕ} → formOf file ≡ Narrow → length table ≡ 32 → institutesMost (formOf file) ≤ length table
-narrow-room e l = rw e (omega arith)
+pub narrow-room : (file table : List ℕ) → formOf file ≡ Narrow → length table ≡ 32 → institutesMost (formOf file) ≤ length table
+narrow-room file table e l = rw e (omega arith)
 
-pub wide-room : {file table : List ℕ} → formOf file ≡ Wide → length table ≡ 1000 → institutesMost (formOf file) ≤ length table
-wide-room e l = rw e (omega arith)
+pub wide-room : (file table : List ℕ) → formOf file ≡ Wide → length table ≡ 1000 → institutesMost (formOf file) ≤ length table
+wide-room file table e l = rw e (omega arith)
 
 -- a file that was read is at hand
 pub at-hand : {file : List ℕ} {got : Reading} {candidates₀ candidates merits₀ merits : List ℕ} → RoundRead file got candidates₀ candidates merits₀ merits

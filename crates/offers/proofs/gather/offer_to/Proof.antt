@@ -6,6 +6,9 @@ use Rattle.offers.specs.Sweeps.{offerTo}
 use Rattle.offers.proofs.gather.offer_to.Statement.{statement}
 use Rattle.offers.proofs.gather.offer_to.Tie as tie
 
+mul-long : tie.Need-mul-long
+mul-long c = search needs
+
 shared-slice-read-long : tie.Need-shared-slice-read-long
 shared-slice-read-long c = search needs
 
@@ -26,4 +29,4 @@ returns-2 c = rw (ne-eqb _ _ (λ e. c .if1 .left (c .before .long .ensures .0 �
 pub offer-to-spec : {M : Type 1} → statement M
 offer-to-spec =
     tie.close
-    (tie.spec shared-slice-read-long long-requires shared-slice-read-result returns returns-2)
+    (tie.spec mul-long shared-slice-read-long long-requires shared-slice-read-result returns returns-2)

@@ -25,6 +25,9 @@ slice-write-tried c = search needs
 cast-asked : tie.Need-cast-asked
 cast-asked c = search entry-small
 
+mul-asked : tie.Need-mul-asked
+mul-asked c = search needs
+
 slice-write-asked : tie.Need-slice-write-asked
 slice-write-asked c = search needs
 
@@ -66,6 +69,7 @@ offer-next-spec =
     add-tried
     slice-write-tried
     cast-asked
+    mul-asked
     slice-write-asked
     only-requires
     slice-write-wanted

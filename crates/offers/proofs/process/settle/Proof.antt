@@ -25,6 +25,9 @@ loop-holds c = (omega arith, refl, begin _ _)
 shared-slice-read-if1 : tie.Need-shared-slice-read-if1 Inv-loop μ-loop
 shared-slice-read-if1 c = search needs
 
+mul-holders : tie.Need-mul-holders Inv-loop μ-loop
+mul-holders c = search needs
+
 slice-write-holders : tie.Need-slice-write-holders Inv-loop μ-loop
 slice-write-holders c = search needs
 
@@ -57,6 +60,7 @@ settle-spec =
     μ-loop
     loop-holds
     shared-slice-read-if1
+    mul-holders
     slice-write-holders
     add-i
     loop-less
