@@ -62,13 +62,13 @@ module _ (institutes : ℕ) (s : Seat) {number : ℕ} {a : Bool} (reads : number
     pub both-named : a ≡ true → b ≡ true → Names institutes s true
     both-named t u = record { tests = rw (first-test t, second-test u) }
 
--- a step that passes the test is from 1 to 6
+-- a step that passes the test is at least 1, and fits into a byte
 module _ {step : ℕ} {b : Bool} (told : b ≡ within 1 6 step) (t : b ≡ true) where
   pub step-least : 1 ≤ step
   step-least = leb-true 1 step (and-fst _ _ (sym told ∙ t))
 
-  pub step-most : step ≤ 6
-  step-most = leb-true step 6 (and-snd (leb 1 step) _ (sym told ∙ t))
+  pub step-few : step < 256
+  step-few = omega (arith, leb-true step 6 (and-snd (leb 1 step) _ (sym told ∙ t)))
 
 module _ {file : List ℕ} {h : Head} {candidates merits list : List ℕ}
     (at : UnderReview file h candidates merits list) {i : ℕ} (inside : i < h .candidates) where

@@ -1,5 +1,5 @@
 -- The listed seats that are in their rows are put into the tables one after the other.
-use Prim.Native.Nat.{ℕ, _+_, _-_, _^_, _≤_, _<_}
+use Prim.Native.Nat.{ℕ, _+_, _*_, _-_, _^_, _≤_, _<_}
 use mathlib.Core.Path.{_≡_, sym, _∙_, ap, subst}
 use mathlib.Core.Bool.{Bool, true, false}
 use mathlib.Core.List.{List}
@@ -9,6 +9,7 @@ use lib.Seq.{getD-set-same, getD-set-other}
 use Rattle.round.specs.declared.entry.Category.{Category}
 use Rattle.round.specs.declared.head.Head.{Head}
 use Rattle.round.specs.Category.{codeOf, categoryOf}
+use Rattle.round.specs.Form.{seatWidth}
 use Rattle.round.specs.Round.{Round}
 use Rattle.round.specs.Reading.{roundOf}
 use Rattle.choice.proofs.Counting.{clash, sameOr}
@@ -47,12 +48,16 @@ module _ {file : List ℕ} {h : Head} {candidates merits list : List ℕ} (at : 
   pub wanted-long : {k : ℕ} {asked wanted : List ℕ} → SeatsRead r seats k asked wanted → length wanted ≡ h .candidates
   wanted-long s = s .wanted-many ∙ candidates-many (at .hand)
 
+  -- and the list has a seat's bytes for each of these places
+  pub list-long : {k : ℕ} {asked wanted : List ℕ} → SeatsRead r seats k asked wanted → length list ≡ seatWidth (h .form) * length asked
+  list-long s = at .size ∙ ap (λ (n : ℕ). seatWidth (h .form) * n) (sym (asked-long s))
+
   -- all candidates are passed
   pub all-read : {k : ℕ} {asked wanted : List ℕ} → SeatsRead r seats k asked wanted → k ≡ h .candidates → AllRead file list asked wanted
   all-read {asked = asked} {wanted = wanted} s e = subst (λ n. SeatsRead r seats n asked wanted) (e ∙ sym (candidates-many (at .hand))) s
 
   module _ {k : ℕ} (inside : k < h .candidates) {b : Bool} (told : b ≡ inRow r seats k) where
-    -- the seat in the row has a step from 1 to 6, as the code has read it
+    -- the seat in the row has a step of at least 1 that fits into a byte, as the code has read it
     module _ {step : ℕ} (reads-step : step ≡ seatIn (h .form) list k .step) (t : b ≡ true) where
       pub row-step-least : 1 ≤ step
       row-step-least = omega (arith, row-numbers r seats k (sym told ∙ t), ap (λ (s : Seat). s .step) (bytes-seat at inside))

@@ -1,8 +1,7 @@
 -- `review::steps::is_wrong` meets its contract: the tests are those of the definition. Assumes nothing.
 use mathlib.Core.Logic.{⊎-elim}
-use native.Mathlib.Omega.{arith}
 use Rattle.review.proofs.SeatBytes.{seat-inside}
-use Rattle.review.proofs.WrongSeats.{SomeSeat, nothing-wrong, no-seat, some-institute, some-step, wrong-unoffered, wrong-stepped}
+use Rattle.review.proofs.WrongSeats.{nothing-wrong, no-seat, some-institute, some-step, wrong-unoffered, wrong-stepped}
 use borrow.Author.Needs.{needs}
 use Rattle.review.proofs.steps.is_wrong.Statement.{statement}
 use Rattle.review.proofs.steps.is_wrong.Tie as tie
@@ -15,6 +14,9 @@ step-at-requires c κs = (search needs, search seat-inside)
 
 returns : tie.Need-returns
 returns c = search (nothing-wrong, no-seat)
+
+mul-if3 : tie.Need-mul-if3
+mul-if3 c = search needs
 
 shared-slice-read-if3 : tie.Need-shared-slice-read-if3
 shared-slice-read-if3 c = search needs
@@ -33,7 +35,9 @@ returns-2 c =
 returns-3 : tie.Need-returns-3
 returns-3 c =
     let at : tie.Joined1 = search needs in
-    wrong-stepped _ _ _ _ _ (⊎-elim (λ w. search some-step) (λ w. search some-institute) (at .if1 .came)) (search needs) (search needs) (search needs)
+    let stepped : tie.After-step-at = search needs in
+    wrong-stepped _ _ _ _ _ (⊎-elim (λ w. search some-step) (λ w. search some-institute) (at .if1 .came)) (search needs) (c .wide .ensures .0)
+    (stepped .step-at .ensures .0)
 
 pub is-wrong-spec : {M : Type 1} → statement M
 is-wrong-spec =
@@ -42,6 +46,7 @@ is-wrong-spec =
     institute-at-requires
     step-at-requires
     returns
+    mul-if3
     shared-slice-read-if3
     shared-slice-read-wide
     wide-requires
