@@ -1,6 +1,7 @@
 //! Files at the edge of each question, with what they are expected to give.
 
 use super::lawful::{lawful, lawful_round, Class};
+use crate::form::Form;
 use crate::reading::{Candidate, Entry, Institute, Round, LONGEST, OPEN};
 use crate::writing::{records, write};
 
@@ -39,6 +40,7 @@ fn plain_candidate() -> Candidate {
 /// One candidate, one institute with one open position, no policy; the head takes 12 bytes, the institute's record 14 and 10 for each type.
 fn plain_round(types: usize) -> Round {
     Round {
+        form: Form::Narrow,
         types,
         policy: 0,
         institutes: vec![Institute {

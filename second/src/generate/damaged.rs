@@ -1,8 +1,9 @@
 //! Damaged files: each is a lawful file changed so that a known question is the first answered no.
 
 use super::lawful::{lawful_round, Class};
+use crate::form::Form;
 use crate::random::Random;
-use crate::reading::{Candidate, Entry, Round, OPEN};
+use crate::reading::{Candidate, Entry, Round, MOST_CANDIDATES, OPEN};
 use crate::writing::records;
 
 /// A damaged file with the refusal it was made for.
@@ -207,6 +208,34 @@ fn some_place(random: &mut Random, round: &Round, records: &[Vec<u8>], number: u
     }
 }
 
+/// The refusal of a file whose damaged records have these faults, each a place and a number, the first one first.
+fn due(round: &Round, records: &[Vec<u8>], faults: &[(usize, u8)]) -> (u8, usize) {
+    let told = Form::told(get(&records[0], 2)).filter(|&told| told != round.form);
+    let (place, number) = match told {
+        Some(told) => due_under(told, round, &records[0], faults),
+        None => faults[0],
+    };
+    (number, offset_of(records, place))
+}
+
+/// The place and number of the refusal where the head tells the other form: a fault of the head or of an institute decides, else the first candidate's record has not the kind due.
+fn due_under(told: Form, round: &Round, head: &[u8], faults: &[(usize, u8)]) -> (usize, u8) {
+    if faults.contains(&(0, 3)) {
+        return (0, 3);
+    }
+    let [n, m, types, policy] = [4, 6, 8, 10].map(|at| get(head, at));
+    let in_range = (1..=MOST_CANDIDATES).contains(&n)
+        && (1..=told.most_institutes()).contains(&m)
+        && types <= 8
+        && policy <= 1;
+    if !in_range {
+        return (0, 5);
+    }
+    let institutes = 1..=round.institutes.len();
+    let first = faults.iter().find(|fault| institutes.contains(&fault.0));
+    *first.unwrap_or(&(round.institutes.len() + 1, 2))
+}
+
 /// A file whose first question answered no is the one with this number, from 1 to 13.
 pub fn damaged(number: u8, seed: u64) -> Damaged {
     let mut random = Random::new(seed);
@@ -242,6 +271,7 @@ pub fn damaged(number: u8, seed: u64) -> Damaged {
         }
         _ => {
             damage(&mut random, &round, &mut records[place], number);
+            let (number, offset) = due(&round, &records, &[(place, number)]);
             Damaged {
                 file: records.concat(),
                 number,
@@ -274,14 +304,14 @@ pub fn two_faults(seed: u64) -> Damaged {
     };
     let mut faults = [(place, first), (other, second)];
     faults.sort();
-    let offset = offset_of(&records, faults[0].0);
     // The later fault is made first, so that the earlier one is there in the end.
     for (at, number) in [faults[1], faults[0]] {
         damage(&mut random, &round, &mut records[at], number);
     }
+    let (number, offset) = due(&round, &records, &faults);
     Damaged {
         file: records.concat(),
-        number: faults[0].1,
+        number,
         offset,
     }
 }

@@ -1,5 +1,6 @@
 //! Lawful rounds of several sizes.
 
+use crate::form::Form;
 use crate::random::Random;
 use crate::reading::{Candidate, Entry, Institute, Round, OPEN};
 use crate::writing::write;
@@ -139,6 +140,7 @@ pub fn lawful_round(class: Class, seed: u64) -> Round {
     let policy = span((0, 1)) as u16;
     let thin = span((0, 3));
     Round {
+        form: Form::Narrow,
         types,
         policy,
         institutes: (0..m)

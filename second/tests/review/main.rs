@@ -51,7 +51,7 @@ const LISTS: usize = 20_000;
 
 /// The list of a round's allotment.
 fn own_list(round: &Round) -> Vec<u8> {
-    let mut answer = answer_of(&allot(round, &Document));
+    let mut answer = answer_of(round, &allot(round, &Document));
     answer.truncate(2 * round.candidates.len());
     answer
 }
