@@ -141,7 +141,7 @@ impl Reading<'_> {
             Way::OneEntryMore if kind == 6 => 17,
             _ => 16,
         };
-        let due = length >= 2 && (length - 2) % part == 0 && (length - 2) / part <= most;
+        let due = (0..=most).any(|entries| length == 2 + part * entries);
         match self.way {
             Way::NarrowLength => due && length <= 34,
             Way::AnyLength if kind == 6 => (2..=50).contains(&length),
