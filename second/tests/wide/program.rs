@@ -58,9 +58,9 @@ fn filled(file: &[u8], length: usize) -> Vec<u8> {
 /// The lawful wide round of this many bytes.
 fn of_bytes(bytes: usize) -> Vec<u8> {
     let name = format!("{bytes}-bytes");
-    let files = wide_boundary().into_iter();
-    let found = files.filter(|(own, _, _)| *own == name).map(|one| one.1);
-    let file = found.last().expect("a boundary file");
+    let mut files = wide_boundary().into_iter();
+    let found = files.find(|(own, _, _)| *own == name);
+    let (_, file, _) = found.expect("a boundary file");
     assert_eq!(file.len(), bytes);
     file
 }
