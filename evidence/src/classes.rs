@@ -230,7 +230,7 @@ pub fn around(random: &mut Random, bound: usize) -> [usize; 7] {
     ]
 }
 
-/// The round files of a folder, by name, in a form.
+/// The round files of a folder, by name, in a form; those that are wide stay so.
 pub fn worked_in(form: Form, folder: &Path) -> Vec<Vec<u8>> {
     let files = worked(folder).into_iter();
     files.map(|file| in_form(form, &file)).collect()

@@ -144,7 +144,7 @@ impl Run {
         tally
     }
 
-    /// Every list, up to one institute and one step too many, for the rounds of at most three candidates that the worked lists are of, in a form.
+    /// Every list, up to one institute and one step too many, for the rounds of at most three candidates and institutes that the worked lists are of, in a form.
     pub fn every_list(&self, form: Form, folder: &Path) -> Tally {
         let name = named(form, "review, every list");
         let mut random = self.random(&name);
@@ -158,8 +158,8 @@ impl Run {
             Tally::new(&name, 0, self.long).with(&[Came::Accepted, Came::Seat, Came::Entry]);
         for file in files {
             let Ok(round) = read(&file) else { continue };
-            let n = round.candidates.len();
-            if n > 3 || round.form != form {
+            let (n, m) = (round.candidates.len(), round.institutes.len());
+            if n > 3 || m > 3 || round.form != form {
                 continue;
             }
             for list in every(&round) {

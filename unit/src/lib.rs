@@ -4,10 +4,6 @@
 //! without a seat. The answer area has two bytes for each candidate, institute and step, then six closing places of two bytes
 //! for each institute, then one byte for each candidate, the type.
 //!
-//! A round file whose head has kind 5 is a wide one, with up to 1,000 institutes. A seat then has four bytes: a two-byte
-//! institute, the low byte first, the step and a zero byte; four zero bytes stand for no seat. The closing places follow from byte
-//! 4n on and the types from byte 4n + 12m on, for n candidates and m institutes.
-//!
 //! ```
 //! let file = std::fs::read("../rounds/a.round")?;
 //! let (mut answer, mut work) = ([0; tazbilk::ANSWER_MOST], [0; tazbilk::WORK_MOST]);
@@ -16,6 +12,21 @@
 //! let types = &answer[2 * 3 + 12..]; // behind the seats of 3 candidates and the closing places of 1 institute
 //! println!("candidate 3: institute {}, step {}, type {}", answer[4], answer[5], types[2]); // institute 1, step 1, type 1
 //! # assert_eq!((said.to_string().as_str(), &answer[4..6], types[2]), ("offers 4", &[1, 1][..], 1));
+//! # Ok::<(), std::io::Error>(())
+//! ```
+//!
+//! A round file whose head has kind 5 is a wide one, with up to 1,000 institutes. A seat then has four bytes: a two-byte
+//! institute, the low byte first, the step and a zero byte; four zero bytes stand for no seat. The closing places follow from byte
+//! 4n on and the types from byte 4n + 12m on, for n candidates and m institutes.
+//!
+//! ```
+//! let file = std::fs::read("../rounds/wide-institute-300.round")?;
+//! let (mut answer, mut work) = ([0; tazbilk::ANSWER_MOST], [0; tazbilk::WORK_MOST]);
+//! println!("{}", tazbilk::allot(&file, &mut answer, &mut work)); // offers 3
+//! let seat = &answer[..4]; // that of candidate 1
+//! let institute = u16::from_le_bytes([seat[0], seat[1]]);
+//! println!("candidate 1: institute {institute}, step {}", seat[2]); // institute 300, step 6
+//! # assert_eq!((institute, seat[2], seat[3]), (300, 6, 0));
 //! # Ok::<(), std::io::Error>(())
 //! ```
 //!

@@ -3,15 +3,8 @@
 use tazbilk::{allot, review, wide_answer_size, wide_list_size, work_size};
 use tazbilk::{Answer, Judgement, Refusal, ANSWER_MOST, WORK_MOST};
 
-/// File A in the wide form: the kinds of the head and of the candidates, and the entries, are others.
-const A: [u8; 76] = [
-    8, 0, 5, 0, 3, 0, 1, 0, 1, 0, 1, 0, //
-    20, 0, 2, 0, 1, 0, 1, 0, 0, 0, 0, 0, 0, 0, 0, 0, 1, 0, 0, 0, 0, 0, 0, 0, //
-    5, 0, 6, 0, 0, 0, 1, 0, 0, //
-    8, 0, 6, 0, 3, 0, 1, 0, 0, 1, 0, 3, //
-    5, 0, 6, 0, 0, 1, 1, 0, 0, //
-    6, 0, 4, 0, 1, 0, 2, 0, 3, 0,
-];
+/// File A in the wide form.
+const A: &[u8] = include_bytes!("../../rounds/wide-a.round");
 
 /// The unit's own list for it.
 const OWN: [u8; 12] = [0, 0, 0, 0, 1, 0, 4, 0, 1, 0, 1, 0];
@@ -50,7 +43,7 @@ fn refused(number: usize, offset: usize) -> Answer {
 fn file_a_is_allotted_as_in_the_narrow_form_and_what_lies_beyond_stays() {
     let (mut answer, mut work) = ([9; 29], [7; 26]);
     assert_eq!(
-        allot(&A, &mut answer, &mut work),
+        allot(A, &mut answer, &mut work),
         Answer::Allotted { offers: 4 }
     );
     assert_eq!(answer[..12], OWN);
@@ -64,11 +57,11 @@ fn file_a_is_allotted_as_in_the_narrow_form_and_what_lies_beyond_stays() {
 #[test]
 fn areas_of_the_sizes_told_suffice_and_smaller_ones_are_refused() {
     let (mut answer, mut work) = (vec![9; wide_answer_size(3, 1)], vec![7; work_size(3)]);
-    assert_eq!(allot(&A, &mut answer[1..], &mut work), refused(14, 0));
-    assert_eq!(allot(&A, &mut answer, &mut work[1..]), refused(14, 0));
+    assert_eq!(allot(A, &mut answer[1..], &mut work), refused(14, 0));
+    assert_eq!(allot(A, &mut answer, &mut work[1..]), refused(14, 0));
     assert_eq!((answer[0], work[0]), (9, 7));
     assert_eq!(
-        allot(&A, &mut answer, &mut work),
+        allot(A, &mut answer, &mut work),
         Answer::Allotted { offers: 4 }
     );
 }
@@ -123,16 +116,16 @@ fn a_wide_list_has_four_bytes_for_each_candidate() {
             number: 15,
             offset: 0,
         });
-        assert_eq!(review(&A, list, &mut work), due);
+        assert_eq!(review(A, list, &mut work), due);
         assert_eq!(work, [7; 24]);
     }
-    assert_eq!(review(&A, &OWN, &mut work), Judgement::Passes);
+    assert_eq!(review(A, &OWN, &mut work), Judgement::Passes);
 }
 
 #[test]
 fn the_length_of_a_file_alone_refuses_nothing() {
     let (mut answer, mut work) = ([0; ANSWER_MOST], [0; WORK_MOST]);
-    let long = [A.as_slice(), &vec![0; 70_000 - A.len()]].concat();
+    let long = [A, &vec![0; 70_000 - A.len()]].concat();
     assert_eq!(allot(&long, &mut answer, &mut work), refused(13, A.len()));
     let lawful = state(30, 1000);
     assert!(lawful.len() > 70_000);
