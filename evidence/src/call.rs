@@ -6,7 +6,7 @@ use crate::tally::Came;
 use second::answer::{answer_bytes, call_in_order_on, call_on, work_bytes, Outcome};
 use second::orders::Order;
 use second::random::Random;
-use second::reading::{read, LONGEST};
+use second::reading::read;
 use tazbilk::{Answer, Refusal, ANSWER_MOST, WORK_MOST};
 
 /// The lengths of the two lent areas.
@@ -120,6 +120,3 @@ fn compare_with(
     };
     (came, Some(difference))
 }
-
-/// Files longer than any lawful one by this much are still tried.
-pub const OVER_LONG: usize = LONGEST + 10_000;

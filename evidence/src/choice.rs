@@ -5,6 +5,7 @@ use crate::difference::{area_text, hex, Difference};
 use crate::probe;
 use crate::tally::Came;
 use second::choice::{Document, Offer, Rule};
+use second::form::Form;
 use second::random::Random;
 use second::reading::{Candidate, Institute, Round, OBC, OPEN};
 use second::writing;
@@ -115,6 +116,7 @@ impl Case {
             })
             .collect();
         let round = Round {
+            form: Form::Narrow,
             types: self.types,
             policy: self.policy as u16,
             institutes: vec![self.institute.clone()],

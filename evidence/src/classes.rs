@@ -2,12 +2,11 @@
 
 use crate::call::{self, needed, some_lengths, Lengths};
 use crate::choice::{self, Case};
-use crate::files::{cut_and_extended, one_byte_changed, Made, A};
+use crate::files::{at_edges, cut_and_extended, in_form, named, one_byte_changed, Made, A};
 use crate::plan;
 use crate::tally::Tally;
 use crate::verdict;
-use second::generate::boundary;
-use second::generate::Class;
+use second::form::Form;
 use second::orders::Order;
 use second::random::Random;
 use std::path::Path;
@@ -41,7 +40,7 @@ impl Run {
     }
 
     /// So many files of a class.
-    fn made(&self, made: Made, count: usize) -> impl Iterator<Item = Vec<u8>> {
+    pub fn made(&self, made: Made, count: usize) -> impl Iterator<Item = Vec<u8>> {
         self.made_for(&made.name(), made, count)
     }
 
@@ -61,15 +60,11 @@ impl Run {
         self.calls("rounds", files.len(), files.into_iter())
     }
 
-    /// The files at the edge of each question.
-    pub fn boundary(&self) -> Tally {
-        let files = boundary();
-        let count = files.len();
-        self.calls(
-            "boundary",
-            count,
-            files.into_iter().map(|(_, file, _)| file),
-        )
+    /// The files at the edge of each question in a form.
+    pub fn boundary(&self, form: Form) -> Tally {
+        let files = at_edges(form);
+        let name = named(form, "boundary");
+        self.calls(&name, files.len(), files.into_iter())
     }
 
     /// Made files of a class.
@@ -104,36 +99,37 @@ impl Run {
         self.called(name, count, self.made_for(name, made, count))
     }
 
-    /// Every other value at every byte of file A.
-    pub fn changed(&self) -> Tally {
-        self.calls("a, one byte changed", 255 * A.len(), one_byte_changed())
+    /// Every other value at every byte of file A in a form.
+    pub fn changed(&self, form: Form) -> Tally {
+        let a = in_form(form, A);
+        let name = named(form, "a, one byte changed");
+        self.calls(&name, 255 * a.len(), one_byte_changed(&a))
     }
 
-    /// File A cut and extended.
-    pub fn cut(&self) -> Tally {
-        let files = cut_and_extended();
-        self.calls("a, cut and extended", files.len(), files.into_iter())
+    /// File A in a form cut and extended.
+    pub fn cut(&self, form: Form) -> Tally {
+        let files = cut_and_extended(form);
+        let name = named(form, "a, cut and extended");
+        self.calls(&name, files.len(), files.into_iter())
     }
 
-    /// Areas of lengths around each bound and an answer area without room for the types, on lawful files and on refused ones.
-    pub fn lengths(&self, folder: &Path) -> Tally {
-        let name = "area lengths";
-        let mut random = self.random(name);
-        let times = if self.long { 10 } else { 1 };
-        let mut files = worked(folder);
-        files.extend(self.made(Made::Lawful(Class::Tiny), 150 * times));
-        files.extend(self.made(Made::Lawful(Class::Small), 50 * times));
-        files.extend(self.made(Made::Lawful(Class::Mid), 4 * times));
-        files.extend(self.made(Made::TwoFaults, 20 * times));
-        let mut tally = Tally::new(name, files.len() * 56, self.long);
+    /// Areas of lengths around each bound and answer areas that lack one, two or three bytes for each candidate, on lawful files of a form and on refused ones.
+    pub fn lengths(&self, form: Form, folder: &Path) -> Tally {
+        let name = named(form, "area lengths");
+        let mut random = self.random(&name);
+        let mut files = worked_in(form, folder);
+        for (made, count) in plan::area_lengths(form, self.long) {
+            files.extend(self.made(made, count));
+        }
+        let mut tally = Tally::new(&name, files.len() * 70, self.long);
         for file in files {
             let least = needed(&file).unwrap_or(Lengths {
                 answer: 21,
                 work: 24,
             });
-            let without_types = least.answer - least.work / 8;
+            let lacking = [1, 2, 3].map(|bytes| least.answer - bytes * least.work / 8);
             let answers = around(&mut random, least.answer);
-            for answer in answers.into_iter().chain([without_types]) {
+            for answer in answers.into_iter().chain(lacking) {
                 for work in around(&mut random, least.work) {
                     let lengths = Lengths { answer, work };
                     let (came, difference) = call::compare(&mut random, &file, lengths);
@@ -144,20 +140,38 @@ impl Run {
         tally
     }
 
-    /// Verdicts on damaged and lawful files.
-    pub fn verdicts(&self, folder: &Path) -> Tally {
-        let classes = plan::verdicts(self.long);
+    /// Areas of every length up to past what it needs for file A in a form.
+    pub fn every_length(&self, form: Form) -> Tally {
+        let name = named(form, "a, every area length");
+        let mut random = self.random(&name);
+        let mut tally = Tally::new(&name, 0, self.long);
+        let file = in_form(form, A);
+        let Some(least) = needed(&file) else {
+            return tally;
+        };
+        for answer in 0..=least.answer + 2 {
+            for work in 0..=least.work + 2 {
+                let lengths = Lengths { answer, work };
+                let (came, difference) = call::compare(&mut random, &file, lengths);
+                tally.count(came, difference);
+            }
+        }
+        tally
+    }
+
+    /// Verdicts on damaged and lawful files of a form.
+    pub fn verdicts(&self, form: Form, folder: &Path) -> Tally {
+        let classes = plan::verdicts(form, self.long);
         let count = classes.iter().map(|(_, count)| count).sum();
-        let mut tally = Tally::new("verdict", count, self.long);
+        let mut tally = Tally::new(&named(form, "verdict"), count, self.long);
         let made = classes
             .into_iter()
             .flat_map(|(made, count)| self.made(made, count));
-        let fixed = boundary().into_iter().map(|(_, file, _)| file);
-        for file in worked(folder)
+        for file in worked_in(form, folder)
             .into_iter()
-            .chain(fixed)
-            .chain(cut_and_extended())
-            .chain(one_byte_changed())
+            .chain(at_edges(form))
+            .chain(cut_and_extended(form))
+            .chain(one_byte_changed(&in_form(form, A)))
             .chain(made)
         {
             let (came, difference) = verdict::compare(&file);
@@ -214,6 +228,12 @@ pub fn around(random: &mut Random, bound: usize) -> [usize; 7] {
         bound / 2,
         random.from_to(0, bound - 1),
     ]
+}
+
+/// The round files of a folder, by name, in a form; those that are wide stay so.
+pub fn worked_in(form: Form, folder: &Path) -> Vec<Vec<u8>> {
+    let files = worked(folder).into_iter();
+    files.map(|file| in_form(form, &file)).collect()
 }
 
 /// The round files of a folder, by name.

@@ -2,44 +2,36 @@
 
 use crate::call::some_lengths;
 use crate::choice::Case;
-use crate::classes::{worked, Run};
+use crate::classes::{worked_in, Run};
 use crate::difference::Difference;
 use crate::fence::{Fence, Side};
-use crate::files::{cut_and_extended, Made};
+use crate::files::{at_edges, cut_and_extended};
+use crate::plan;
 use crate::probe;
 use crate::tally::{Came, Tally};
 use crate::telling::Told;
 use second::answer::{call_on, Outcome};
-use second::generate::{boundary, Class};
+use second::form::Form;
 use second::reading::read;
 use std::io::{self, Write};
 use std::path::Path;
-use tazbilk::{Answer, Refusal};
+use tazbilk::{Answer, Refusal, ANSWER_MOST};
 
 /// The name of the class.
 pub const NAME: &str = "fenced";
 
-/// The files called on.
+/// The files called on, of both forms.
 fn files(run: &Run, folder: &Path) -> Vec<Vec<u8>> {
-    let mut files = worked(folder);
-    files.extend(boundary().into_iter().map(|(_, file, _)| file));
-    files.extend(cut_and_extended().into_iter().take(400));
+    let mut files = Vec::new();
     let mut random = run.random(NAME);
-    let times = if run.long { 20 } else { 1 };
-    for (made, count) in [
-        (Made::Lawful(Class::Tiny), 300),
-        (Made::Lawful(Class::Small), 300),
-        (Made::Lawful(Class::Mid), 6),
-        (Made::Types(32), 30),
-        (Made::TwoFaults, 200),
-        (Made::Torn, 1_000),
-    ] {
-        files.extend((0..count * times).map(|_| made.file(random.bits())));
+    for form in Form::BOTH {
+        files.extend(worked_in(form, folder));
+        files.extend(at_edges(form));
+        files.extend(cut_and_extended(form).into_iter().take(400));
+        for (made, count) in plan::fenced(form, run.long) {
+            files.extend((0..count).map(|_| made.file(random.bits())));
+        }
     }
-    files.extend((0..2_600 * times).map(|count| {
-        let number = (count % 13) as u8 + 1;
-        Made::Refused(number).file(random.bits())
-    }));
     files
 }
 
@@ -60,8 +52,8 @@ pub fn alone(run: &Run, folder: &Path) -> io::Result<()> {
     let files = files(run, folder);
     let most = files.iter().map(Vec::len).max().unwrap_or(0);
     let mut file_fence = Fence::new(most).ok_or_else(missing)?;
-    let mut answer_fence = Fence::new(8_192).ok_or_else(missing)?;
-    let mut work_fence = Fence::new(8_192).ok_or_else(missing)?;
+    let mut answer_fence = Fence::new(ANSWER_MOST + 4_096).ok_or_else(missing)?;
+    let mut work_fence = Fence::new(ANSWER_MOST + 4_096).ok_or_else(missing)?;
     let mut random = run.random("fenced areas");
     let mut out = io::stdout().lock();
     for (number, file) in files.iter().enumerate() {

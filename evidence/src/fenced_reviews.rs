@@ -3,12 +3,15 @@
 use crate::classes::Run;
 use crate::difference::Difference;
 use crate::fence::{Fence, Side};
+use crate::files::in_form;
 use crate::lists::{own, Listed};
 use crate::plan;
 use crate::review::{came, judgement_of};
 use crate::reviews::{some_list, some_work, worked_lists};
 use crate::tally::{Came, Tally};
 use crate::telling::Told;
+use second::form::Form;
+use second::random::Random;
 use second::reading::read;
 use second::review::review;
 use std::io::{self, Write};
@@ -24,39 +27,49 @@ struct Case {
     work: usize,
 }
 
-/// The cases reviewed: the worked lists, the unit's own cut at every length and with a byte more, and lists of all classes.
+/// The cases reviewed, of both forms: the worked lists, the unit's own cut at every length and with a byte more, and lists of all classes.
 fn cases(run: &Run, folder: &Path) -> Vec<Case> {
     let mut random = run.random(NAME);
     let mut cases = Vec::new();
     for one in worked_lists(folder) {
-        let whole = [own(&one.file), vec![0]].concat();
-        cases.extend((0..=whole.len()).map(|len| Case {
-            file: one.file.clone(),
-            list: whole[..len].to_vec(),
-            work: 24,
-        }));
+        for form in Form::BOTH {
+            let file = in_form(form, &one.file);
+            let whole = [own(&file), vec![0]].concat();
+            cases.extend((0..=whole.len()).map(|len| Case {
+                file: file.clone(),
+                list: whole[..len].to_vec(),
+                work: 24,
+            }));
+        }
         cases.push(Case {
             work: some_work(&mut random, &one.file),
             file: one.file,
             list: one.list,
         });
     }
-    for (made, count) in plan::fenced_lists(run.long) {
-        for listed in Listed::ALL.into_iter().cycle().take(count) {
-            let mut file = made.file(random.bits());
-            let list = match read(&file) {
-                Ok(round) => {
-                    file = listed.file(file);
-                    listed.list(&mut random, &round, &file)
-                }
-                Err(_) => some_list(&mut random, &file),
-            };
-            let enough = some_work(&mut random, &file);
-            let work = random.pick(&[enough, enough, enough, enough / 2]);
-            cases.push(Case { file, list, work });
+    for form in Form::BOTH {
+        for (made, count) in plan::fenced_lists(form, run.long) {
+            for listed in Listed::all(form).into_iter().cycle().take(count) {
+                let file = made.file(random.bits());
+                cases.push(made_case(&mut random, listed, file));
+            }
         }
     }
     cases
+}
+
+/// A case of a class of lists for a file, which may be refused.
+fn made_case(random: &mut Random, listed: Listed, mut file: Vec<u8>) -> Case {
+    let list = match read(&file) {
+        Ok(round) => {
+            file = listed.file(file);
+            listed.list(random, &round, &file)
+        }
+        Err(_) => some_list(random, &file),
+    };
+    let enough = some_work(random, &file);
+    let work = random.pick(&[enough, enough, enough, enough / 2]);
+    Case { file, list, work }
 }
 
 /// Makes the reviews; each case's number is printed before its call, and a word more where it differs.

@@ -1,14 +1,49 @@
 //! The files that the unit and the second program are put to, each made from a class and a seed.
 
-use crate::call::OVER_LONG;
 use crate::shapes;
-use second::generate::{damaged, lawful, two_faults, Class};
+use second::form::Form;
+use second::generate::{boundary, wide_boundary};
+use second::generate::{damaged, lawful, two_faults, wide_damaged, wide_two_faults, Class};
 use second::random::Random;
-use second::reading::LONGEST;
+use second::reading::{LONGEST, LONGEST_WIDE};
+use second::widening::widened;
 use second::writing::write;
 
 /// The bytes of file A.
 pub const A: &[u8] = include_bytes!("../../rounds/a.round");
+
+/// A narrow file in a form.
+pub fn in_form(form: Form, file: &[u8]) -> Vec<u8> {
+    match form {
+        Form::Narrow => file.to_vec(),
+        Form::Wide => widened(file),
+    }
+}
+
+/// The name of a class of cases in a form.
+pub fn named(form: Form, name: &str) -> String {
+    match form {
+        Form::Narrow => name.to_string(),
+        Form::Wide => format!("wide {name}"),
+    }
+}
+
+/// The longest lawful file of a form.
+fn longest(form: Form) -> usize {
+    match form {
+        Form::Narrow => LONGEST,
+        Form::Wide => LONGEST_WIDE,
+    }
+}
+
+/// The files at the edge of each question in a form.
+pub fn at_edges(form: Form) -> Vec<Vec<u8>> {
+    let files = match form {
+        Form::Narrow => boundary(),
+        Form::Wide => wide_boundary(),
+    };
+    files.into_iter().map(|(_, file, _)| file).collect()
+}
 
 /// A class of made files.
 #[derive(Clone, Copy, Debug, PartialEq, Eq)]
@@ -18,7 +53,7 @@ pub enum Made {
     /// A lawful round of any size and shape.
     Mixed,
     /// A lawful round of many candidates with short rows.
-    Wide,
+    Broad,
     /// The contested round of so many candidates.
     Contested(usize),
     /// The contested round of 512 candidates with rows of so many entries at most.
@@ -29,12 +64,12 @@ pub enum Made {
     Types(usize),
     /// The round of so many candidates with one row and one merit list.
     Alike(usize),
-    /// Files made for one refusal.
-    Refused(u8),
-    /// Files with two faults.
-    TwoFaults,
-    /// Lawful files with random bytes changed, cut off, put in or added.
-    Torn,
+    /// Files of a form made for one refusal.
+    Refused(Form, u8),
+    /// Files of a form with two faults.
+    TwoFaults(Form),
+    /// Lawful files of a form with random bytes changed, cut off, put in or added.
+    Torn(Form),
 }
 
 impl Made {
@@ -43,15 +78,15 @@ impl Made {
         match self {
             Made::Lawful(class) => class.name().to_string(),
             Made::Mixed => "mixed".to_string(),
-            Made::Wide => "wide".to_string(),
+            Made::Broad => "broad".to_string(),
             Made::Contested(n) => format!("contested-{n}"),
             Made::Rows(entries) => format!("rows-{entries}"),
             Made::Worst(n) => format!("worst-{n}"),
             Made::Types(n) => format!("types-{n}"),
             Made::Alike(n) => format!("alike-{n}"),
-            Made::Refused(number) => format!("refused-{number}"),
-            Made::TwoFaults => "two-faults".to_string(),
-            Made::Torn => "torn".to_string(),
+            Made::Refused(form, number) => format!("{}refused-{number}", prefix(form)),
+            Made::TwoFaults(form) => format!("{}two-faults", prefix(form)),
+            Made::Torn(form) => format!("{}torn", prefix(form)),
         }
     }
 
@@ -69,23 +104,42 @@ impl Made {
         match self {
             Made::Lawful(class) => lawful(class, seed),
             Made::Mixed => write(&shapes::mixed(seed)),
-            Made::Wide => write(&shapes::wide(seed)),
+            Made::Broad => write(&shapes::broad(seed)),
             Made::Contested(n) => write(&shapes::contested(n, seed)),
             Made::Rows(entries) => write(&shapes::short_rows(512, entries, seed)),
             Made::Worst(n) => write(&shapes::worst(n, seed)),
             Made::Types(n) => write(&shapes::types(n, seed)),
             Made::Alike(n) => write(&shapes::alike(n)),
-            Made::Refused(number) => damaged(number, seed).file,
-            Made::TwoFaults => two_faults(seed).file,
-            Made::Torn => torn(seed),
+            Made::Refused(Form::Narrow, number) => damaged(number, seed).file,
+            Made::Refused(Form::Wide, number) => wide_damaged(number, seed).file,
+            Made::TwoFaults(Form::Narrow) => two_faults(seed).file,
+            Made::TwoFaults(Form::Wide) => wide_two_faults(seed).file,
+            Made::Torn(form) => torn(form, seed),
         }
     }
 }
 
-/// A lawful file with one to three random bytes changed, cut off, put in, or added.
-fn torn(seed: u64) -> Vec<u8> {
+/// What the names of the generator's classes of a form begin with.
+fn prefix(form: Form) -> &'static str {
+    match form {
+        Form::Narrow => "",
+        Form::Wide => "wide-",
+    }
+}
+
+/// A lawful file of a form with one to three random bytes changed, cut off, put in, or added.
+fn torn(form: Form, seed: u64) -> Vec<u8> {
     let mut random = Random::new(seed);
-    let class = random.pick(&[Class::Tiny, Class::Tiny, Class::Small, Class::Small]);
+    let classes = match form {
+        Form::Narrow => [Class::Tiny, Class::Tiny, Class::Small, Class::Small],
+        Form::Wide => [
+            Class::WideTiny,
+            Class::WideTiny,
+            Class::WideSmall,
+            Class::WideMany,
+        ],
+    };
+    let class = random.pick(&classes);
     let mut file = lawful(class, random.bits());
     for _ in 0..random.from_to(1, 3) {
         let at = random.from_to(0, file.len().max(1) - 1);
@@ -103,35 +157,40 @@ fn torn(seed: u64) -> Vec<u8> {
     file
 }
 
-/// File A with each of its bytes changed to each other value.
-pub fn one_byte_changed() -> impl Iterator<Item = Vec<u8>> {
-    (0..A.len()).flat_map(|at| {
+/// A file with each of its bytes changed to each other value.
+pub fn one_byte_changed(file: &[u8]) -> impl Iterator<Item = Vec<u8>> + '_ {
+    (0..file.len()).flat_map(move |at| {
         (0..=255u8)
-            .filter(move |&value| value != A[at])
+            .filter(move |&value| value != file[at])
             .map(move |value| {
-                let mut file = A.to_vec();
+                let mut file = file.to_vec();
                 file[at] = value;
                 file
             })
     })
 }
 
-/// File A cut after each of its bytes, with each byte added, and made longer by every length up to 300 and some up to past the longest lawful file.
-pub fn cut_and_extended() -> Vec<Vec<u8>> {
-    let mut files: Vec<Vec<u8>> = (0..=A.len()).map(|kept| A[..kept].to_vec()).collect();
-    files.extend((0..=255).map(|value| [A, &[value]].concat()));
+/// Files longer than any lawful one by this much are still tried.
+const OVER_LONG: usize = 10_000;
+
+/// File A of a form cut after each of its bytes, with each byte added, and made longer by every length up to 300 and some up to past the longest lawful file of the form.
+pub fn cut_and_extended(form: Form) -> Vec<Vec<u8>> {
+    let a = &in_form(form, A)[..];
+    let mut files: Vec<Vec<u8>> = (0..=a.len()).map(|kept| a[..kept].to_vec()).collect();
+    files.extend((0..=255).map(|value| [a, &[value]].concat()));
+    let longest = longest(form);
     let more = [
         1024,
         65_535,
         65_536,
-        LONGEST - 73,
-        LONGEST - 72,
-        LONGEST,
-        OVER_LONG,
+        longest - a.len() - 1,
+        longest - a.len(),
+        longest,
+        longest + OVER_LONG,
     ];
     for more in (2..=300).chain(more) {
-        files.push([A, &vec![0; more]].concat());
-        files.push([A, &A.repeat(more / 72 + 1)[..more]].concat());
+        files.push([a, &vec![0; more]].concat());
+        files.push([a, &a.repeat(more / a.len() + 1)[..more]].concat());
     }
     files
 }

@@ -24,3 +24,4 @@ pub mod tally;
 pub mod telling;
 pub mod timing;
 pub mod verdict;
+pub mod widening;

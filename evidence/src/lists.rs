@@ -2,10 +2,12 @@
 
 use crate::tally::Came;
 use second::choice::{Document, Offer, Rule};
+use second::form::Form;
 use second::list::{listed, said};
 use second::random::Random;
 use second::reading::{Entry, Round, OPEN};
-use tazbilk::{allot, list_size, Answer, Judgement, ANSWER_MOST, WORK_MOST};
+use second::review::list_bytes;
+use tazbilk::{allot, Answer, Judgement, ANSWER_MOST, WORK_MOST};
 
 /// A class of lists.
 #[derive(Clone, Copy, Debug, PartialEq, Eq)]
@@ -26,11 +28,15 @@ pub enum Listed {
     Random,
     /// Under policy 0, given ones with step 6 for one to three open entries.
     Six,
+    /// Of the wide form, the unit's own with one to three last bytes changed, also those of 0 0.
+    Last,
+    /// Of the wide form, the unit's own with one to three institutes 256 numbers or more on or back.
+    Apart,
 }
 
 impl Listed {
-    /// All classes.
-    pub const ALL: [Listed; 8] = [
+    /// The classes of both forms.
+    pub const BOTH: [Listed; 8] = [
         Listed::Own,
         Listed::Seats,
         Listed::Steps,
@@ -41,6 +47,15 @@ impl Listed {
         Listed::Six,
     ];
 
+    /// All classes of a form.
+    pub fn all(form: Form) -> Vec<Listed> {
+        let more: &[Listed] = match form {
+            Form::Narrow => &[],
+            Form::Wide => &[Listed::Last, Listed::Apart],
+        };
+        [&Listed::BOTH, more].concat()
+    }
+
     /// What some lists of the class come to.
     pub fn due(self) -> &'static [Came] {
         match self {
@@ -48,6 +63,7 @@ impl Listed {
             Listed::Seats | Listed::Rows => &[Came::Accepted, Came::Seat, Came::Entry],
             Listed::Given => &[Came::Accepted, Came::Entry],
             Listed::Steps | Listed::Bytes | Listed::Random | Listed::Six => &[Came::Seat],
+            Listed::Last | Listed::Apart => &[Came::Seat],
         }
     }
 
@@ -62,6 +78,8 @@ impl Listed {
             Listed::Given => "review, given",
             Listed::Random => "review, random",
             Listed::Six => "review, 6 of policy 0",
+            Listed::Last => "review, last bytes",
+            Listed::Apart => "review, 256 apart",
         }
     }
 
@@ -75,17 +93,17 @@ impl Listed {
 
     /// A list for a round that was read from a file.
     pub fn list(self, random: &mut Random, round: &Round, file: &[u8]) -> Vec<u8> {
+        let n = round.candidates.len();
         match self {
             Listed::Own => own(file),
             Listed::Seats => changed(random, file, |random, list| {
-                let candidate = random.from_to(0, list.len() / 2 - 1);
-                put(list, candidate, some_seat(random, round, candidate));
+                let candidate = random.from_to(0, n - 1);
+                let seat = some_seat(random, round, candidate);
+                put(round.form, list, candidate, &seat);
             }),
             Listed::Steps => changed(random, file, |random, list| {
-                let candidate = random.from_to(0, list.len() / 2 - 1);
-                let seated = (0..list.len() / 2).map(|on| (candidate + on) % (list.len() / 2));
-                if let Some(found) = seated.into_iter().find(|&one| list[2 * one] > 0) {
-                    list[2 * found + 1] = some_step(random);
+                if let Some(seat) = some_seated(random, round.form, list) {
+                    seat[round.form.institute_bytes()] = some_step(random);
                 }
             }),
             Listed::Bytes => changed(random, file, |random, list| {
@@ -109,6 +127,18 @@ impl Listed {
                 let given = Listed::Given.list(random, round, file);
                 six(random, round, given)
             }
+            Listed::Last => changed(random, file, |random, list| {
+                let width = round.form.seat_bytes();
+                let last = width * random.from_to(1, n) - 1;
+                let any = random.from_to(1, 255) as u8;
+                list[last] = random.pick(&[any, 1, 255]);
+            }),
+            Listed::Apart => changed(random, file, |random, list| {
+                if let Some(seat) = some_seated(random, round.form, list) {
+                    let high = random.from_to(0, 255) as u8;
+                    seat[1] = random.pick(&[seat[1] ^ 1, seat[1] ^ 2, high]);
+                }
+            }),
         }
     }
 }
@@ -117,7 +147,7 @@ impl Listed {
 pub fn own(file: &[u8]) -> Vec<u8> {
     let (mut answer, mut work) = ([0; ANSWER_MOST], [0; WORK_MOST]);
     match allot(file, &mut answer, &mut work) {
-        Answer::Allotted { .. } => answer[..list_size(candidates(file))].to_vec(),
+        Answer::Allotted { .. } => answer[..form(file).seat_bytes() * candidates(file)].to_vec(),
         Answer::Refused(_) => Vec::new(),
     }
 }
@@ -125,6 +155,12 @@ pub fn own(file: &[u8]) -> Vec<u8> {
 /// The number of candidates that the head of a file tells.
 pub fn candidates(file: &[u8]) -> usize {
     usize::from(u16::from_le_bytes([file[4], file[5]]))
+}
+
+/// The form that the head of a file tells.
+pub fn form(file: &[u8]) -> Form {
+    let kind = u16::from_le_bytes([file[2], file[3]]);
+    Form::told(usize::from(kind)).unwrap_or(Form::Narrow)
 }
 
 /// The unit's own list after one to three changes.
@@ -141,18 +177,38 @@ fn changed(
     list
 }
 
-/// Puts a seat, or none, to a candidate.
-fn put(list: &mut [u8], candidate: usize, seat: [u8; 2]) {
-    list[2 * candidate..2 * candidate + 2].copy_from_slice(&seat);
+/// The bytes of an institute, counted from 1, and a step in a form.
+fn pair(form: Form, institute: usize, step: u8) -> Vec<u8> {
+    let mut bytes = form.number(institute);
+    bytes.push(step);
+    bytes.resize(form.seat_bytes(), 0);
+    bytes
+}
+
+/// Puts the bytes of a seat, or of none, to a candidate.
+fn put(form: Form, list: &mut [u8], candidate: usize, seat: &[u8]) {
+    let width = form.seat_bytes();
+    list[width * candidate..width * (candidate + 1)].copy_from_slice(seat);
+}
+
+/// The bytes of a seat of the list, the first one from some candidate on, where there is any.
+fn some_seated<'a>(random: &mut Random, form: Form, list: &'a mut [u8]) -> Option<&'a mut [u8]> {
+    let width = form.seat_bytes();
+    let n = list.len() / width;
+    let first = random.from_to(0, n - 1);
+    let found = (0..n)
+        .map(|on| width * ((first + on) % n))
+        .find(|&at| form.institute(&list[at..]) > 0)?;
+    Some(&mut list[found..found + width])
 }
 
 /// A seat that stands for an entry.
-fn seat_of(random: &mut Random, entry: Entry) -> [u8; 2] {
+fn seat_of(random: &mut Random, form: Form, entry: Entry) -> Vec<u8> {
     let step = match entry.category {
         OPEN => random.pick(&[1, 1, 1, 6]),
         category => category + 1,
     };
-    [entry.institute as u8 + 1, step]
+    pair(form, entry.institute + 1, step)
 }
 
 /// A step, most often one that there is.
@@ -162,43 +218,45 @@ fn some_step(random: &mut Random) -> u8 {
 }
 
 /// A seat that stands for an entry of the row, another one, none, or what is no seat.
-fn some_seat(random: &mut Random, round: &Round, candidate: usize) -> [u8; 2] {
-    let row = &round.candidates[candidate].row;
-    let institute = random.from_to(1, round.institutes.len()) as u8;
+fn some_seat(random: &mut Random, round: &Round, candidate: usize) -> Vec<u8> {
+    let (form, row) = (round.form, &round.candidates[candidate].row);
+    let institute = random.from_to(1, round.institutes.len());
     match random.from_to(0, 9) {
         0..=4 if !row.is_empty() => {
             let entry = random.pick(row);
-            seat_of(random, entry)
+            seat_of(random, form, entry)
         }
-        5..=6 => [institute, random.from_to(1, 6) as u8],
+        5..=6 => pair(form, institute, random.from_to(1, 6) as u8),
         7 => {
-            let more = round.institutes.len() as u8 + 1;
-            random.pick(&[
-                [0, 1],
-                [institute, 0],
-                [institute, 7],
-                [more, 1],
-                [255, 255],
-            ])
+            let more = round.institutes.len() + 1;
+            let no_seats = [
+                (0, 1),
+                (institute, 0),
+                (institute, 7),
+                (more, 1),
+                (65_535, 255),
+            ];
+            let (institute, step) = random.pick(&no_seats);
+            pair(form, institute, step)
         }
-        _ => [0, 0],
+        _ => pair(form, 0, 0),
     }
 }
 
 /// A list of entries of the rows, in one of so many cases with another step; some have no seat.
 fn of_rows(random: &mut Random, round: &Round, wrong: usize) -> Vec<u8> {
     let none = random.pick(&[2, 4, 1_000]);
-    let mut list = vec![0; list_size(round.candidates.len())];
+    let mut list = vec![0; list_bytes(round)];
     for (candidate, own) in round.candidates.iter().enumerate() {
         if own.row.is_empty() || random.one_in(none) {
             continue;
         }
         let entry = random.pick(&own.row);
-        let mut seat = seat_of(random, entry);
+        let mut seat = seat_of(random, round.form, entry);
         if random.one_in(wrong) {
-            seat[1] = some_step(random);
+            seat[round.form.institute_bytes()] = some_step(random);
         }
-        put(&mut list, candidate, seat);
+        put(round.form, &mut list, candidate, &seat);
     }
     list
 }
@@ -207,13 +265,15 @@ fn of_rows(random: &mut Random, round: &Round, wrong: usize) -> Vec<u8> {
 fn at_random(random: &mut Random, round: &Round) -> Vec<u8> {
     let (institutes, sparse) = (round.institutes.len(), random.pick(&[1, 1, 8, 64]));
     let all = random.one_in(4);
-    let mut list = vec![0; list_size(round.candidates.len())];
-    for seat in list.chunks_exact_mut(2) {
+    let mut list = vec![0; list_bytes(round)];
+    for seat in list.chunks_exact_mut(round.form.seat_bytes()) {
         if all {
-            seat.copy_from_slice(&(random.bits() as u16).to_le_bytes());
+            let bytes = random.bits().to_le_bytes();
+            seat.copy_from_slice(&bytes[..seat.len()]);
         } else if random.one_in(sparse) {
-            seat[0] = random.from_to(0, institutes + 1) as u8;
-            seat[1] = random.from_to(0, 7) as u8;
+            let institute = random.from_to(0, institutes + 1);
+            let step = random.from_to(0, 7) as u8;
+            seat.copy_from_slice(&pair(round.form, institute, step));
         }
     }
     list
@@ -227,8 +287,8 @@ fn six(random: &mut Random, round: &Round, mut list: Vec<u8>) -> Vec<u8> {
             .filter(|entry| entry.category == OPEN)
             .collect();
         if !open.is_empty() {
-            let institute = random.pick(&open).institute as u8 + 1;
-            put(&mut list, candidate, [institute, 6]);
+            let seat = pair(round.form, random.pick(&open).institute + 1, 6);
+            put(round.form, &mut list, candidate, &seat);
         }
     }
     list
@@ -238,12 +298,15 @@ fn six(random: &mut Random, round: &Round, mut list: Vec<u8>) -> Vec<u8> {
 fn settle(round: &Round, list: &mut [u8], institute: usize, added: Option<Offer>) {
     let mut offers = listed(round, &said(round, list)).swap_remove(institute);
     offers.extend(added);
-    let number = institute as u8 + 1;
-    for seat in list.chunks_exact_mut(2).filter(|seat| seat[0] == number) {
-        seat.copy_from_slice(&[0, 0]);
+    let number = institute + 1;
+    for seat in list.chunks_exact_mut(round.form.seat_bytes()) {
+        if round.form.institute(seat) == number {
+            seat.fill(0);
+        }
     }
     for taken in Document.choose(round, institute, &offers) {
-        put(list, taken.offer.candidate, [number, taken.step]);
+        let seat = pair(round.form, number, taken.step);
+        put(round.form, list, taken.offer.candidate, &seat);
     }
 }
 
@@ -251,7 +314,8 @@ fn settle(round: &Round, list: &mut [u8], institute: usize, added: Option<Offer>
 pub fn mend(round: &Round, list: &mut [u8], found: &Judgement) -> bool {
     match *found {
         Judgement::WrongSeat { candidate } => {
-            let institute = usize::from(list[2 * candidate - 2]);
+            let at = round.form.seat_bytes() * (candidate - 1);
+            let institute = round.form.institute(&list[at..]);
             settle(round, list, institute - 1, None);
             true
         }
@@ -271,15 +335,26 @@ pub fn mend(round: &Round, list: &mut [u8], found: &Judgement) -> bool {
     }
 }
 
-/// Every list of a round over institutes and steps up to one too many.
+/// What is listed for one candidate in every list of a round: institutes and steps up to one too many, and in the wide form also no seat and seats with another last byte or the institute's high byte changed.
+fn every_pair(round: &Round) -> Vec<Vec<u8>> {
+    let mut pairs: Vec<Vec<u8>> = (0..round.institutes.len() + 2)
+        .flat_map(|institute| (0..8).map(move |step| (institute, step)))
+        .map(|(institute, step)| pair(round.form, institute, step))
+        .collect();
+    if round.form == Form::Wide {
+        pairs.extend([[0, 0, 0, 1], [1, 0, 1, 1], [1, 0, 4, 255], [1, 1, 1, 0]].map(Vec::from));
+    }
+    pairs
+}
+
+/// Every list of a round over such pairs.
 pub fn every(round: &Round) -> impl Iterator<Item = Vec<u8>> {
-    let (n, institutes) = (round.candidates.len(), round.institutes.len() + 2);
-    let pairs = 8 * institutes;
-    (0..pairs.pow(n as u32)).map(move |mut number| {
+    let (n, pairs) = (round.candidates.len(), every_pair(round));
+    (0..pairs.len().pow(n as u32)).map(move |mut number| {
         let mut list = Vec::new();
         for _ in 0..n {
-            list.extend([(number % pairs / 8) as u8, (number % 8) as u8]);
-            number /= pairs;
+            list.extend(&pairs[number % pairs.len()]);
+            number /= pairs.len();
         }
         list
     })

@@ -44,6 +44,7 @@ pub fn classes() -> Vec<(String, Made, Vec<u64>)> {
         ("worst, behind".to_string(), Made::Worst(512), vec![3]),
         ("types, apart".to_string(), Made::Types(512), vec![0]),
         ("types, in vain".to_string(), Made::Types(512), vec![1]),
+        named(Class::WideMaximal, (1..=2).collect()),
     ]
 }
 
@@ -75,6 +76,7 @@ pub fn reviews() -> Vec<(String, Made, Vec<u64>)> {
                 "contested",
                 "worst, behind",
                 "types, apart",
+                "wide-maximal",
             ]
             .contains(&name.as_str())
         })

@@ -1,13 +1,15 @@
 //! The unit's program: what it prints for a round file on standard input, against what the second program prints.
 
-use crate::classes::{worked, Run};
+use crate::classes::{worked_in, Run};
 use crate::difference::Difference;
-use crate::files::{Made, A};
+use crate::files::{at_edges, in_form, Made, A};
+use crate::plan;
 use crate::tally::{Came, Tally};
-use second::generate::{boundary, Class as Size};
-use second::printing::print;
+use second::form::Form;
+use second::generate::Class as Size;
+use second::printing::{print, MOST_INPUT};
 use second::random::Random;
-use second::reading::{read, LONGEST};
+use second::reading::LONGEST;
 use std::fs::File;
 use std::io::{self, Read, Write};
 use std::path::{Path, PathBuf};
@@ -97,10 +99,6 @@ impl Program {
             .printed(random, file, way)
             .unwrap_or_else(|error| format!("(not run: {error})\n"));
         let due = print(file);
-        let came = match read(file) {
-            Ok(_) => Came::Accepted,
-            Err(refusal) => Came::Refused(usize::from(refusal.number)),
-        };
         let difference = (said != due).then(|| Difference {
             asked: match way {
                 Way::File => "the program, its input a file".to_string(),
@@ -114,7 +112,7 @@ impl Program {
             unit: first_other_line(&said, &due),
             second: first_other_line(&due, &said),
         });
-        tally.count(came, difference);
+        tally.count(came(&due), difference);
     }
 
     /// The tally of these files in a way.
@@ -127,28 +125,53 @@ impl Program {
         tally
     }
 
-    /// The classes of the program, by name: the lines expected, files, pipes, short reads, none and too much.
-    pub fn classes(&self) -> [(&'static str, Class); 6] {
+    /// The classes of the program, by name: the lines expected; files, pipes and short reads of narrow and of wide rounds; none and too much.
+    pub fn classes(&self) -> [(&'static str, Class); 10] {
         [
             ("program, expected", |program, run, folder| {
                 program.expected(run, folder)
             }),
             ("program, file", |program, run, folder| {
-                program.class(run, "program, file", &files(run, folder), Way::File)
+                let files = files(Form::Narrow, run, folder);
+                program.class(run, "program, file", &files, Way::File)
             }),
             ("program, pipe", |program, run, folder| {
-                program.class(run, "program, pipe", &files(run, folder), Way::Pipe)
+                let files = files(Form::Narrow, run, folder);
+                program.class(run, "program, pipe", &files, Way::Pipe)
             }),
             ("program, dribbled", |program, run, folder| {
-                program.class(run, "program, dribbled", &files(run, folder), Way::Dribbled)
+                let files = files(Form::Narrow, run, folder);
+                program.class(run, "program, dribbled", &files, Way::Dribbled)
+            }),
+            ("program, wide file", |program, run, folder| {
+                let files = files(Form::Wide, run, folder);
+                program.class(run, "program, wide file", &files, Way::File)
+            }),
+            ("program, wide pipe", |program, run, folder| {
+                let files = files(Form::Wide, run, folder);
+                program.class(run, "program, wide pipe", &files, Way::Pipe)
+            }),
+            ("program, wide dribbled", |program, run, folder| {
+                let files = files(Form::Wide, run, folder);
+                program.class(run, "program, wide dribbled", &files, Way::Dribbled)
             }),
             ("program, over-long", |program, run, _| {
-                program.class(run, "program, over-long", &over_long(), Way::Pipe)
+                program.too_long(run, "program, over-long", Way::Pipe)
             }),
             ("program, over-long file", |program, run, _| {
-                program.class(run, "program, over-long file", &over_long(), Way::File)
+                program.too_long(run, "program, over-long file", Way::File)
+            }),
+            ("program, over-long dribbled", |program, run, _| {
+                program.too_long(run, "program, over-long dribbled", Way::Dribbled)
             }),
         ]
+    }
+
+    /// Inputs about the most bytes that are read, and none, in a way.
+    fn too_long(&self, run: &Run, name: &str, way: Way) -> Tally {
+        let due = [1, 13, 16].map(Came::Refused);
+        self.class(run, name, &over_long(), way)
+            .with(&[&due[..], &[Came::Accepted]].concat())
     }
 
     /// The worked rounds against the lines that stand beside them.
@@ -175,53 +198,56 @@ impl Program {
                 unit: first_other_line(&said, &due),
                 second: first_other_line(&due, &said),
             });
-            let came = match read(&file) {
-                Ok(_) => Came::Accepted,
-                Err(refusal) => Came::Refused(usize::from(refusal.number)),
-            };
-            tally.count(came, difference);
+            tally.count(came(&due), difference);
         }
         tally
     }
 }
 
-/// The files that the program is run on: worked rounds, boundary files and made ones.
-fn files(run: &Run, folder: &Path) -> Vec<Vec<u8>> {
-    let times = if run.long { 10 } else { 1 };
-    let mut files = worked(folder);
-    files.extend(boundary().into_iter().map(|(_, file, _)| file));
+/// What a printed text tells.
+fn came(text: &str) -> Came {
+    let number = text.strip_prefix("refused ").and_then(|rest| {
+        let word = rest.split(' ').next()?;
+        word.parse().ok()
+    });
+    number.map_or(Came::Accepted, Came::Refused)
+}
+
+/// The files of a form that the program is run on: worked rounds, boundary files and made ones.
+fn files(form: Form, run: &Run, folder: &Path) -> Vec<Vec<u8>> {
+    let mut files = worked_in(form, folder);
+    files.extend(at_edges(form));
     let mut random = run.random("program");
-    for (made, count) in [
-        (Made::Lawful(Size::Tiny), 100),
-        (Made::Lawful(Size::Small), 100),
-        (Made::Lawful(Size::Mid), 10),
-        (Made::Lawful(Size::Maximal), 1),
-        (Made::Types(32), 20),
-        (Made::TwoFaults, 40),
-        (Made::Torn, 60),
-    ] {
-        files.extend((0..count * times).map(|_| made.file(random.bits())));
+    for (made, count) in plan::printed(form, run.long) {
+        files.extend((0..count).map(|_| made.file(random.bits())));
     }
     files
 }
 
-/// Nothing at all, and inputs longer than the longest lawful file, some of them by far.
+/// Nothing at all, the longest lawful files, and inputs about the length of the narrow one, about the most bytes that are read, and far longer.
 fn over_long() -> Vec<Vec<u8>> {
     let longest = Made::Lawful(Size::Maximal).file(1);
-    let behind = |file: &[u8], more: usize| [file, &vec![0; more]].concat();
-    vec![
-        Vec::new(),
-        longest.clone(),
-        behind(&longest, 1),
-        behind(&longest, 4_096),
-        behind(&longest, 3_000_000),
-        behind(A, LONGEST - A.len()),
-        behind(A, LONGEST + 1 - A.len()),
-        behind(A, 3_000_000),
-        vec![0; LONGEST],
-        vec![255; LONGEST + 1],
-        vec![1; 3_000_000],
-    ]
+    let wide = Made::Lawful(Size::WideMaximal).file(1);
+    let filled = |file: &[u8], len: usize| {
+        let mut file = file.to_vec();
+        file.resize(len, 0);
+        file
+    };
+    let mut files = vec![Vec::new(), longest.clone(), wide.clone()];
+    files.extend([LONGEST + 1, LONGEST + 4_096].map(|len| filled(&longest, len)));
+    files.extend([LONGEST, LONGEST + 1].map(|len| filled(A, len)));
+    for len in [
+        MOST_INPUT - 1,
+        MOST_INPUT,
+        MOST_INPUT + 1,
+        70_000,
+        3_000_000,
+    ] {
+        files.extend([A, &in_form(Form::Wide, A), &longest, &[]].map(|file| filled(file, len)));
+        files.push(wide[..len.min(wide.len())].to_vec());
+        files.push(vec![255; len]);
+    }
+    files
 }
 
 /// The first line of a text that another has not at its place, with its number.

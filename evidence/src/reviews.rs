@@ -1,17 +1,18 @@
 //! The classes of reviews, each run to its tally.
 
 use crate::call::needed;
-use crate::classes::{around, worked, Run};
+use crate::classes::{around, worked_in, Run};
 use crate::difference::Difference;
-use crate::files::Made;
+use crate::files::{in_form, named, Made};
 use crate::lists::{every, mend, own, Listed};
 use crate::plan;
 use crate::review::{came, compare};
 use crate::tally::{Came, Tally};
+use second::form::Form;
 use second::random::Random;
 use second::reading::read;
 use std::path::Path;
-use tazbilk::{list_size, work_size, LIST_MOST, WORK_MOST};
+use tazbilk::{work_size, LIST_MOST, WORK_MOST};
 
 /// A list of the folder of worked lists, with its round file and the line that is due.
 pub struct Worked {
@@ -65,12 +66,12 @@ pub fn some_list(random: &mut Random, file: &[u8]) -> Vec<u8> {
 }
 
 impl Run {
-    /// Reviews of lists of a class for rounds of these classes, so many of each.
-    pub fn lists(&self, listed: Listed, rounds: &[(Made, usize)]) -> Tally {
-        let name = listed.name();
-        let mut random = self.random(name);
+    /// Reviews of lists of a class for rounds of these classes of a form, so many of each.
+    pub fn lists(&self, form: Form, listed: Listed, rounds: &[(Made, usize)]) -> Tally {
+        let name = named(form, listed.name());
+        let mut random = self.random(&name);
         let count = rounds.iter().map(|(_, count)| count).sum();
-        let mut tally = Tally::new(name, count, self.long).with(listed.due());
+        let mut tally = Tally::new(&name, count, self.long).with(listed.due());
         for &(made, count) in rounds {
             for file in self.made_for(&format!("{name}, {}", made.name()), made, count) {
                 let file = listed.file(file);
@@ -93,12 +94,12 @@ impl Run {
         tally
     }
 
-    /// Reviews of lists that are mended finding by finding, so many times at most.
-    pub fn mended(&self, rounds: &[(Made, usize)]) -> Tally {
-        let name = "review, mended";
-        let mut random = self.random(name);
+    /// Reviews of lists that are mended finding by finding, so many times at most, for rounds of these classes of a form.
+    pub fn mended(&self, form: Form, rounds: &[(Made, usize)]) -> Tally {
+        let name = named(form, "review, mended");
+        let mut random = self.random(&name);
         let mut tally =
-            Tally::new(name, 0, self.long).with(&[Came::Accepted, Came::Seat, Came::Entry]);
+            Tally::new(&name, 0, self.long).with(&[Came::Accepted, Came::Seat, Came::Entry]);
         for &(made, count) in rounds {
             for file in self.made_for(&format!("{name}, {}", made.name()), made, count) {
                 let Ok(round) = read(&file) else { continue };
@@ -143,22 +144,22 @@ impl Run {
         tally
     }
 
-    /// Every list, up to one institute and one step too many, for the rounds of at most three candidates that the worked lists are of.
-    pub fn every_list(&self, folder: &Path) -> Tally {
-        let name = "review, every list";
-        let mut random = self.random(name);
+    /// Every list, up to one institute and one step too many, for the rounds of at most three candidates and institutes that the worked lists are of, in a form.
+    pub fn every_list(&self, form: Form, folder: &Path) -> Tally {
+        let name = named(form, "review, every list");
+        let mut random = self.random(&name);
         let mut files: Vec<Vec<u8>> = worked_lists(folder)
             .into_iter()
-            .map(|one| one.file)
+            .map(|one| in_form(form, &one.file))
             .collect();
         files.sort();
         files.dedup();
         let mut tally =
-            Tally::new(name, 0, self.long).with(&[Came::Accepted, Came::Seat, Came::Entry]);
+            Tally::new(&name, 0, self.long).with(&[Came::Accepted, Came::Seat, Came::Entry]);
         for file in files {
             let Ok(round) = read(&file) else { continue };
-            let n = round.candidates.len();
-            if n > 3 {
+            let (n, m) = (round.candidates.len(), round.institutes.len());
+            if n > 3 || m > 3 || round.form != form {
                 continue;
             }
             for list in every(&round) {
@@ -169,14 +170,14 @@ impl Run {
         tally
     }
 
-    /// Damaged files with lists of right and wrong lengths, and work areas of all sizes.
-    pub fn damaged_with_lists(&self) -> Tally {
-        let name = "review, damaged files";
-        let mut random = self.random(name);
-        let classes = plan::damaged_with_lists(self.long);
+    /// Damaged files of a form with lists of right and wrong lengths, and work areas of all sizes.
+    pub fn damaged_with_lists(&self, form: Form) -> Tally {
+        let name = named(form, "review, damaged files");
+        let mut random = self.random(&name);
+        let classes = plan::damaged_with_lists(form, self.long);
         let count = classes.iter().map(|(_, count)| count).sum();
         let due: Vec<Came> = (1..=15).map(Came::Refused).collect();
-        let mut tally = Tally::new(name, count, self.long).with(&due);
+        let mut tally = Tally::new(&name, count, self.long).with(&due);
         for (made, count) in classes {
             for file in self.made_for(&format!("{name}, {}", made.name()), made, count) {
                 let list = some_list(&mut random, &file);
@@ -189,15 +190,15 @@ impl Run {
         tally
     }
 
-    /// Lists of lengths around 2n and work areas of lengths around 8n, on lawful files and on refused ones.
-    pub fn list_lengths(&self, folder: &Path) -> Tally {
-        let name = "review, lengths";
-        let mut random = self.random(name);
-        let mut files = worked(folder);
-        for (made, count) in plan::list_lengths(self.long) {
+    /// Lists of lengths around 2n, in the wide form 4n, and work areas of lengths around 8n, on lawful files and on refused ones.
+    pub fn list_lengths(&self, form: Form, folder: &Path) -> Tally {
+        let name = named(form, "review, lengths");
+        let mut random = self.random(&name);
+        let mut files = worked_in(form, folder);
+        for (made, count) in plan::list_lengths(form, self.long) {
             files.extend(self.made_for(&format!("{name}, {}", made.name()), made, count));
         }
-        let mut tally = Tally::new(name, files.len() * 77, self.long).with(&[
+        let mut tally = Tally::new(&name, files.len() * 77, self.long).with(&[
             Came::Accepted,
             Came::Refused(14),
             Came::Refused(15),
@@ -205,7 +206,7 @@ impl Run {
         for file in files {
             let n = needed(&file).map_or(3, |least| least.work / 8);
             let whole = own(&file);
-            for len in lengths(&mut random, list_size(n)) {
+            for len in lengths(&mut random, form.seat_bytes() * n) {
                 let mut list = whole.clone();
                 list.resize(len, random.bits() as u8);
                 for work in around(&mut random, work_size(n)) {

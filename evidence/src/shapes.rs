@@ -1,5 +1,6 @@
-//! Lawful rounds of shapes that the second program's generator does not make.
+//! Lawful rounds of the narrow form, of shapes that the second program's generator does not make.
 
+use second::form::Form;
 use second::random::Random;
 use second::reading::{Candidate, Entry, Institute, Round, OBC, OPEN};
 
@@ -107,6 +108,7 @@ pub fn mixed(seed: u64) -> Round {
         })
         .collect();
     Round {
+        form: Form::Narrow,
         types,
         policy: random.from_to(0, 1) as u16,
         institutes,
@@ -116,7 +118,7 @@ pub fn mixed(seed: u64) -> Round {
 }
 
 /// A round of 257 to 512 candidates, 512 as often as not, with short rows, so that numbers and places of two bytes come often and cheaply.
-pub fn wide(seed: u64) -> Round {
+pub fn broad(seed: u64) -> Round {
     let mut random = Random::new(seed);
     let n = random.pick(&[512, 0]).max(random.from_to(257, 512));
     let m = random.from_to(4, 32);
@@ -157,6 +159,7 @@ pub fn wide(seed: u64) -> Round {
         })
         .collect();
     Round {
+        form: Form::Narrow,
         types,
         policy: random.pick(&[0, 1, 1]),
         institutes,
@@ -199,6 +202,7 @@ pub fn contested(n: usize, seed: u64) -> Round {
         })
         .collect();
     Round {
+        form: Form::Narrow,
         types: 8,
         policy: 1,
         institutes,
@@ -252,6 +256,7 @@ pub fn worst(n: usize, seed: u64) -> Round {
         })
         .collect();
     Round {
+        form: Form::Narrow,
         types: 8,
         policy: 0,
         institutes: vec![institute],
@@ -300,6 +305,7 @@ pub fn alike(n: usize) -> Round {
         })
         .collect();
     Round {
+        form: Form::Narrow,
         types: 8,
         policy: 1,
         institutes: vec![institute; 8],
@@ -365,6 +371,7 @@ fn all_reserved(random: &mut Random, n: usize, m: usize, held: usize) -> Round {
         })
         .collect();
     Round {
+        form: Form::Narrow,
         types: 8,
         policy: 1,
         institutes,
@@ -402,6 +409,7 @@ fn in_vain(random: &mut Random, n: usize) -> Round {
     let mut institute = bare(8);
     put(&mut institute, usize::from(OPEN), n, reserved);
     Round {
+        form: Form::Narrow,
         types: 8,
         policy: 0,
         institutes: vec![institute],

@@ -3,13 +3,15 @@
 //! What the wrapper's own frame takes is counted in; bytes that are set aside and never written are not.
 
 use crate::choice::Case;
-use crate::files::Made;
+use crate::files::{in_form, Made};
 use crate::lists::{own, Listed};
 use crate::probe;
+use second::form::Form;
 use second::generate::Class;
 use second::random::Random;
 use second::reading::read;
 use std::arch::asm;
+use std::cell::RefCell;
 use tazbilk::{ANSWER_MOST, WORK_MOST};
 
 /// The bytes of the stack that a call is run on.
@@ -60,16 +62,16 @@ fn greatest(files: &[Vec<u8>], call: impl Fn(&[u8])) -> usize {
         .unwrap_or(0)
 }
 
-/// The files whose calls are measured: lawful ones of all classes, the worst ones, and refused ones.
-fn files() -> Vec<Vec<u8>> {
+/// The files of a form whose calls are measured: lawful ones of all classes, the worst ones, and refused ones.
+fn files(form: Form) -> Vec<Vec<u8>> {
     let mut files = vec![Vec::new()];
-    for class in Class::ALL {
+    for class in Class::ALL.into_iter().filter(|class| class.form() == form) {
         files.extend((1..=5).map(|seed| Made::Lawful(class).file(seed)));
     }
-    files.extend((0..5).map(|seed| Made::Worst(512).file(seed)));
-    files.extend((0..3).map(|seed| Made::Types(512).file(seed)));
+    files.extend((0..5).map(|seed| in_form(form, &Made::Worst(512).file(seed))));
+    files.extend((0..3).map(|seed| in_form(form, &Made::Types(512).file(seed))));
     files.extend(
-        (1..=13).flat_map(|number| (0..5).map(move |seed| Made::Refused(number).file(seed))),
+        (1..=13).flat_map(|number| (0..5).map(move |seed| Made::Refused(form, number).file(seed))),
     );
     files
 }
@@ -81,9 +83,10 @@ fn greatest_review(files: &[Vec<u8>]) -> usize {
     let mut most = 0;
     for file in files {
         let lists: Vec<Vec<u8>> = match read(file) {
-            Ok(round) => Listed::ALL
+            Ok(round) => Listed::all(round.form)
+                .into_iter()
                 .map(|listed| listed.list(&mut random, &round, file))
-                .into(),
+                .collect(),
             Err(_) => vec![own(file)],
         };
         for list in lists {
@@ -95,29 +98,16 @@ fn greatest_review(files: &[Vec<u8>]) -> usize {
     most
 }
 
-/// What was measured, as lines of text.
-pub fn text() -> String {
-    let nothing = depth(&mut || {});
-    let files = files();
-    let (answer, work) = (
-        std::cell::RefCell::new([0; ANSWER_MOST]),
-        std::cell::RefCell::new([0; WORK_MOST]),
-    );
-    let allot = greatest(&files, |file| {
-        tazbilk::allot(file, &mut *answer.borrow_mut(), &mut *work.borrow_mut());
-    });
-    let verdict = greatest(&files, |file| {
-        let _ = probe::verdict(file);
-    });
-    let review = greatest_review(&files);
+/// The greatest stack of the choices of 400 made cases.
+fn greatest_choice() -> usize {
     let mut random = Random::new(1);
-    let mut choose = 0;
+    let mut most = 0;
     for number in 0..400 {
         let case = Case::made(&mut random, if number < 40 { 512 } else { 60 });
         let body = case.body();
         let mut steps = vec![0; case.offers.len()];
         let mut types = steps.clone();
-        choose = choose.max(depth(&mut || {
+        most = most.max(depth(&mut || {
             probe::choose(
                 &body,
                 case.types,
@@ -129,11 +119,41 @@ pub fn text() -> String {
             );
         }));
     }
+    most
+}
+
+/// The greatest stack of each call over the files of a form, as text.
+fn of_form(form: Form) -> String {
+    let files = files(form);
+    let (answer, work) = (RefCell::new([0; ANSWER_MOST]), RefCell::new([0; WORK_MOST]));
+    let allot = greatest(&files, |file| {
+        tazbilk::allot(file, &mut *answer.borrow_mut(), &mut *work.borrow_mut());
+    });
+    let verdict = greatest(&files, |file| {
+        let _ = probe::verdict(file);
+    });
+    let review = greatest_review(&files);
+    let name = match form {
+        Form::Narrow => "narrow",
+        Form::Wide => "wide",
+    };
+    format!(
+        "over {} {name} files: allot {allot}, review {review}, verdict {verdict}",
+        files.len()
+    )
+}
+
+/// What was measured, as lines of text.
+pub fn text() -> String {
+    let [narrow, wide] = Form::BOTH.map(of_form);
+    let (choose, nothing) = (greatest_choice(), depth(&mut || {}));
     format!(
         "Each call is run on a stack of its own that a pattern fills beforehand; the lowest byte changed tells how deep it went. The\n\
-         greatest over {} files of all classes, the worst and the refused ones among them, in bytes: allot {allot}, review {review},\n\
-         of the unit's own lists and others, verdict {verdict}; over 400 single choices: choose {choose}. A call of nothing takes\n\
-         {nothing}, which is counted in, and so is the wrapper.\n",
-        files.len()
+         greatest, in bytes, over files of all classes of a form, the worst and the refused ones among them, and in reviews over the\n\
+         unit's own lists and others:\n\n\
+         - {narrow};\n\
+         - {wide};\n\
+         - over 400 single choices: choose {choose}.\n\n\
+         A call of nothing takes {nothing}, which is counted in, and so is the wrapper.\n"
     )
 }

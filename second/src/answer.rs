@@ -1,11 +1,12 @@
 //! The call: what it answers and what both areas hold after it.
 
 use crate::choice::Document;
+use crate::list::seat_bytes;
 use crate::offers::{allot, Allotment};
 use crate::orders::{ended, Order};
 use crate::reading::{read, Refusal, Round};
 
-/// What a call answers; the answer bytes are the first 3n + 12m of the answer area, none where the call takes no answer area.
+/// What a call answers; the answer bytes are the first 3n + 12m of the answer area, 5n + 12m in the wide form, none where the call takes no answer area.
 #[derive(Clone, Debug, PartialEq, Eq)]
 pub enum Outcome {
     Allotted { offers: usize, answer: Vec<u8> },
@@ -27,9 +28,9 @@ pub(crate) const TOO_SMALL: Refusal = Refusal {
     offset: 0,
 };
 
-/// The bytes of the answer area a round needs.
+/// The bytes of the answer area a round needs: for each candidate those of a seat and one more, and twelve for each institute.
 pub fn answer_bytes(round: &Round) -> usize {
-    3 * round.candidates.len() + 12 * round.institutes.len()
+    (round.form.seat_bytes() + 1) * round.candidates.len() + 12 * round.institutes.len()
 }
 
 /// The bytes of the work area a round needs.
@@ -37,14 +38,11 @@ pub fn work_bytes(round: &Round) -> usize {
     8 * round.candidates.len()
 }
 
-/// The bytes written to the answer area.
-pub fn answer_of(allotment: &Allotment) -> Vec<u8> {
+/// The bytes written to the answer area for a round's allotment.
+pub fn answer_of(round: &Round, allotment: &Allotment) -> Vec<u8> {
     let mut bytes = Vec::new();
-    for seat in &allotment.seats {
-        match seat {
-            Some(seat) => bytes.extend([seat.institute as u8 + 1, seat.step]),
-            None => bytes.extend([0, 0]),
-        }
+    for &seat in &allotment.seats {
+        bytes.extend(seat_bytes(round.form, seat));
     }
     for place in allotment.closing.iter().flatten() {
         bytes.extend((*place as u16).to_le_bytes());
@@ -75,7 +73,7 @@ fn call_by(
     let allotment = allot(&round);
     Outcome::Allotted {
         offers: allotment.offers,
-        answer: answer_of(&allotment),
+        answer: answer_of(&round, &allotment),
     }
 }
 

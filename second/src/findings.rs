@@ -9,7 +9,10 @@ pub fn wrong_seat<R: Rule + ?Sized>(round: &Round, rule: &R, said: &[Said]) -> O
     let given: Vec<Vec<Taken>> = listed(round, said)
         .iter()
         .enumerate()
-        .map(|(institute, offers)| rule.choose(round, institute, offers))
+        .map(|(institute, offers)| match offers.is_empty() {
+            true => Vec::new(),
+            false => rule.choose(round, institute, offers),
+        })
         .collect();
     (0..said.len()).find(|&candidate| match said[candidate] {
         Said::NoSeat => false,

@@ -3,6 +3,7 @@
 pub mod answer;
 pub mod choice;
 pub mod findings;
+pub mod form;
 pub mod generate;
 pub mod horizontal;
 pub mod list;
@@ -12,7 +13,10 @@ pub mod printing;
 pub mod random;
 pub mod reading;
 pub mod review;
+pub mod widening;
 pub mod writing;
 
 pub use answer::{call, call_on, call_without_answer, call_without_answer_on, Outcome};
+pub use form::Form;
 pub use review::{review, Review};
+pub use widening::{widened, widened_list};

@@ -1,17 +1,18 @@
-//! A hand-made list: what its two bytes for each candidate, institute and step, say.
+//! A hand-made list: what its bytes for each candidate, institute and step, say.
 
 use crate::choice::{category_of, Offer};
+use crate::form::Form;
 use crate::offers::Seat;
 use crate::reading::{Entry, Round};
 
 /// What a list says of a candidate.
 #[derive(Clone, Copy, Debug, PartialEq, Eq)]
 pub enum Said {
-    /// 0 0: no seat.
+    /// Institute 0 and step 0, in the wide form with the zero byte: no seat.
     NoSeat,
     /// A seat that stands for the entry at this place of the row.
     InRow { seat: Seat, place: usize },
-    /// Any other two bytes.
+    /// Any other bytes.
     NotInRow,
 }
 
@@ -23,9 +24,22 @@ fn entry_of(seat: Seat) -> Entry {
     }
 }
 
-/// What two bytes say of the candidate with this row, there being so many institutes.
-fn said_of(row: &[Entry], institutes: usize, pair: [u8; 2]) -> Said {
-    let (institute, step) = (usize::from(pair[0]), pair[1]);
+/// The bytes of a seat, or of none, in a form.
+pub fn seat_bytes(form: Form, seat: Option<Seat>) -> Vec<u8> {
+    let (institute, step) = seat.map_or((0, 0), |seat| (seat.institute + 1, seat.step));
+    let mut bytes = form.number(institute);
+    bytes.push(step);
+    bytes.resize(form.seat_bytes(), 0);
+    bytes
+}
+
+/// What the bytes of a seat say of the candidate with this row, there being so many institutes.
+fn said_of(form: Form, row: &[Entry], institutes: usize, bytes: &[u8]) -> Said {
+    let (institute, rest) = (form.institute(bytes), &bytes[form.institute_bytes()..]);
+    let (step, behind) = (rest[0], &rest[1..]);
+    if behind.iter().any(|&byte| byte != 0) {
+        return Said::NotInRow;
+    }
     if (institute, step) == (0, 0) {
         return Said::NoSeat;
     }
@@ -42,11 +56,11 @@ fn said_of(row: &[Entry], institutes: usize, pair: [u8; 2]) -> Said {
     }
 }
 
-/// What a list of two bytes for each candidate says of each.
+/// What a list with the bytes of a seat for each candidate says of each.
 pub fn said(round: &Round, list: &[u8]) -> Vec<Said> {
     let rows = round.candidates.iter().map(|candidate| &candidate.row);
-    rows.zip(list.chunks_exact(2))
-        .map(|(row, pair)| said_of(row, round.institutes.len(), [pair[0], pair[1]]))
+    rows.zip(list.chunks_exact(round.form.seat_bytes()))
+        .map(|(row, bytes)| said_of(round.form, row, round.institutes.len(), bytes))
         .collect()
 }
 

@@ -70,7 +70,8 @@ impl<'a, R: Rule + ?Sized> Process<'a, R> {
     pub fn allotment(&self) -> Allotment {
         let mut seats = vec![None; self.tried.len()];
         let mut types = vec![0; self.tried.len()];
-        for (institute, held) in self.held.iter().enumerate() {
+        let institutes = self.held.iter().enumerate();
+        for (institute, held) in institutes.filter(|(_, held)| !held.is_empty()) {
             let given = self.rule.types(self.round, institute, held);
             for (taken, own) in held.iter().zip(given) {
                 seats[taken.offer.candidate] = Some(Seat {

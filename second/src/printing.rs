@@ -6,8 +6,19 @@ use crate::reading::{read, MOST_CANDIDATES};
 use crate::review::{review, Review};
 use std::fmt::Write;
 
-/// The whole text printed for a file: offers, seats with their types and closing places, or the refusal.
-pub fn print(file: &[u8]) -> String {
+/// The most bytes of an input that the program reads.
+pub const MOST_INPUT: usize = 65_536;
+
+/// The whole text that the program prints for an input: that of the round file, or the refusal of an input that is too long.
+pub fn print(input: &[u8]) -> String {
+    if input.len() > MOST_INPUT {
+        return "refused 16 at 0\n".to_string();
+    }
+    print_round(input)
+}
+
+/// The whole text for a round file of any length: offers, seats with their types and closing places, or the refusal.
+pub fn print_round(file: &[u8]) -> String {
     let round = match read(file) {
         Ok(round) => round,
         Err(refusal) => return format!("refused {} at {}\n", refusal.number, refusal.offset),

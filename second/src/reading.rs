@@ -1,7 +1,12 @@
 //! Reading a round file: questions 1 to 13, put to each record in file order.
 
-/// The number of bytes of the longest lawful file.
+use crate::form::Form;
+
+/// The number of bytes of the longest lawful file of the narrow form.
 pub const LONGEST: usize = 55_372;
+
+/// The number of bytes of the longest lawful file of either form.
+pub const LONGEST_WIDE: usize = 1_149_660;
 
 /// The most candidates of a round.
 pub const MOST_CANDIDATES: usize = 512;
@@ -34,9 +39,10 @@ pub struct Candidate {
     pub row: Vec<Entry>,
 }
 
-/// What a round file says; the merit lists hold candidates counted from 0, best first.
+/// What a round file says, in either form; the merit lists hold candidates counted from 0, best first.
 #[derive(Clone, Debug, PartialEq, Eq)]
 pub struct Round {
+    pub form: Form,
     pub types: usize,
     pub policy: u16,
     pub institutes: Vec<Institute>,
@@ -57,8 +63,9 @@ struct Reader<'a> {
     at: usize,
 }
 
-/// A record's body and the offset of the record's first byte.
+/// A record's kind and body, and the offset of the record's first byte.
 struct Record<'a> {
+    kind: usize,
     body: &'a [u8],
     offset: usize,
 }
@@ -101,18 +108,19 @@ impl<'a> Reader<'a> {
     /// Puts questions 1 to 4 to the record at this place and moves behind it.
     fn record(
         &mut self,
-        kind: usize,
+        due: impl Fn(usize) -> bool,
         allowed: impl Fn(usize) -> bool,
     ) -> Result<Record<'a>, Refusal> {
         let offset = self.at;
         let rest = &self.file[offset..];
         ask(1, offset, rest.len() >= 4)?;
-        let length = two_bytes(rest, 0);
-        ask(2, offset, two_bytes(rest, 2) == kind)?;
+        let (length, kind) = (two_bytes(rest, 0), two_bytes(rest, 2));
+        ask(2, offset, due(kind))?;
         ask(3, offset, allowed(length))?;
         ask(4, offset, rest.len() - 4 >= length)?;
         self.at = offset + 4 + length;
         Ok(Record {
+            kind,
             body: &rest[4..4 + length],
             offset,
         })
@@ -123,11 +131,14 @@ impl<'a> Reader<'a> {
 pub fn read(file: &[u8]) -> Result<Round, Refusal> {
     let mut reader = Reader { file, at: 0 };
 
-    let head = reader.record(1, |length| length == 8)?;
+    let head = reader.record(|kind| Form::told(kind).is_some(), |length| length == 8)?;
+    let form = Form::told(head.kind).expect("a kind that was due");
     let numbers = head.numbers();
     let (n, m, types, policy) = (numbers[0], numbers[1], numbers[2], numbers[3]);
-    let in_range =
-        (1..=MOST_CANDIDATES).contains(&n) && (1..=32).contains(&m) && types <= 8 && policy <= 1;
+    let in_range = (1..=MOST_CANDIDATES).contains(&n)
+        && (1..=form.most_institutes()).contains(&m)
+        && types <= 8
+        && policy <= 1;
     head.ask(5, in_range)?;
 
     let mut institutes = Vec::new();
@@ -136,7 +147,7 @@ pub fn read(file: &[u8]) -> Result<Round, Refusal> {
     }
     let mut candidates = Vec::new();
     for _ in 0..n {
-        candidates.push(read_candidate(&mut reader, m, types)?);
+        candidates.push(read_candidate(&mut reader, form, m, types)?);
     }
     let mut merit = Vec::new();
     for _ in 0..m {
@@ -144,6 +155,7 @@ pub fn read(file: &[u8]) -> Result<Round, Refusal> {
     }
     ask(13, reader.at, reader.at == file.len())?;
     Ok(Round {
+        form,
         types,
         policy: policy as u16,
         institutes,
@@ -154,7 +166,7 @@ pub fn read(file: &[u8]) -> Result<Round, Refusal> {
 
 /// Reads one institute's record.
 fn read_institute(reader: &mut Reader, types: usize) -> Result<Institute, Refusal> {
-    let record = reader.record(2, |length| length == 10 + 10 * types)?;
+    let record = reader.record(|kind| kind == 2, |length| length == 10 + 10 * types)?;
     let numbers = record.numbers();
     let mut institute = Institute {
         positions: [0; 5],
@@ -173,21 +185,31 @@ fn read_institute(reader: &mut Reader, types: usize) -> Result<Institute, Refusa
 }
 
 /// Reads one candidate's record.
-fn read_candidate(reader: &mut Reader, m: usize, types: usize) -> Result<Candidate, Refusal> {
-    let record = reader.record(3, |length| (2..=34).contains(&length) && length % 2 == 0)?;
+fn read_candidate(
+    reader: &mut Reader,
+    form: Form,
+    m: usize,
+    types: usize,
+) -> Result<Candidate, Refusal> {
+    let record = reader.record(
+        |kind| kind == form.candidate(),
+        |length| form.allows(length),
+    )?;
     let (code, marks) = (record.body[0], record.body[1]);
-    let pairs: Vec<&[u8]> = record.body[2..].chunks_exact(2).collect();
+    let entries: Vec<&[u8]> = record.body[2..].chunks_exact(form.entry_bytes()).collect();
+    let institute = |entry: &[u8]| form.institute(entry);
+    let category = |entry: &[u8]| entry[form.institute_bytes()];
     record.ask(8, code <= 4 && usize::from(marks) < 1 << types)?;
-    let lawful = pairs.iter().all(|pair| {
-        (1..=m).contains(&usize::from(pair[0])) && (pair[1] == OPEN || pair[1] == code)
+    let lawful = entries.iter().all(|entry| {
+        (1..=m).contains(&institute(entry)) && [OPEN, code].contains(&category(entry))
     });
     record.ask(9, lawful)?;
-    record.ask(10, all_different(&pairs))?;
-    let row = pairs
+    record.ask(10, all_different(&entries))?;
+    let row = entries
         .iter()
-        .map(|pair| Entry {
-            institute: usize::from(pair[0]) - 1,
-            category: pair[1],
+        .map(|entry| Entry {
+            institute: institute(entry) - 1,
+            category: category(entry),
         })
         .collect();
     Ok(Candidate { code, marks, row })
@@ -195,7 +217,10 @@ fn read_candidate(reader: &mut Reader, m: usize, types: usize) -> Result<Candida
 
 /// Reads one merit list's record.
 fn read_merit(reader: &mut Reader, n: usize) -> Result<Vec<usize>, Refusal> {
-    let record = reader.record(4, |length| length <= 2 * n && length % 2 == 0)?;
+    let record = reader.record(
+        |kind| kind == 4,
+        |length| length <= 2 * n && length % 2 == 0,
+    )?;
     let numbers = record.numbers();
     record.ask(11, numbers.iter().all(|number| (1..=n).contains(number)))?;
     record.ask(12, all_different(&numbers))?;

@@ -32,11 +32,16 @@ impl From<Refusal> for Review {
     }
 }
 
-/// The refusal of a list that has not two bytes for each candidate.
-const NOT_2N: Refusal = Refusal {
+/// The refusal of a list of another length.
+const OTHER_LENGTH: Refusal = Refusal {
     number: 15,
     offset: 0,
 };
+
+/// The bytes of a list of a round.
+pub fn list_bytes(round: &Round) -> usize {
+    round.form.seat_bytes() * round.candidates.len()
+}
 
 /// Reviews a list on a lent work area and leaves in it what the document says.
 pub fn review(file: &[u8], list: &[u8], work: &mut [u8]) -> Review {
@@ -44,8 +49,8 @@ pub fn review(file: &[u8], list: &[u8], work: &mut [u8]) -> Review {
         Ok(round) => round,
         Err(refusal) => return refusal.into(),
     };
-    if list.len() != 2 * round.candidates.len() {
-        return NOT_2N.into();
+    if list.len() != list_bytes(&round) {
+        return OTHER_LENGTH.into();
     }
     if work.len() < work_bytes(&round) {
         return TOO_SMALL.into();
@@ -54,7 +59,7 @@ pub fn review(file: &[u8], list: &[u8], work: &mut [u8]) -> Review {
     found(&round, list)
 }
 
-/// What is found in a list of two bytes for each candidate of a round.
+/// What is found in a list with the bytes of a seat for each candidate of a round.
 pub fn found(round: &Round, list: &[u8]) -> Review {
     let said = said(round, list);
     if let Some(candidate) = wrong_seat(round, &Document, &said) {

@@ -1,5 +1,6 @@
 //! Writing a round as a round file.
 
+use crate::form::Form;
 use crate::reading::{Candidate, Institute, Round};
 
 /// The bytes of two-byte numbers.
@@ -17,9 +18,9 @@ pub fn record(kind: usize, body: &[u8]) -> Vec<u8> {
     bytes
 }
 
-/// The head's record.
-pub fn head(n: usize, m: usize, types: usize, policy: usize) -> Vec<u8> {
-    record(1, &two_bytes(&[n, m, types, policy]))
+/// The head's record of a form.
+pub fn head(form: Form, n: usize, m: usize, types: usize, policy: usize) -> Vec<u8> {
+    record(form.head(), &two_bytes(&[n, m, types, policy]))
 }
 
 /// An institute's record.
@@ -32,13 +33,14 @@ pub fn institute(institute: &Institute) -> Vec<u8> {
     record(2, &two_bytes(&numbers))
 }
 
-/// A candidate's record.
-pub fn candidate(candidate: &Candidate) -> Vec<u8> {
+/// A candidate's record of a form.
+pub fn candidate(form: Form, candidate: &Candidate) -> Vec<u8> {
     let mut body = vec![candidate.code, candidate.marks];
     for entry in &candidate.row {
-        body.extend([entry.institute as u8 + 1, entry.category]);
+        body.extend(form.number(entry.institute.wrapping_add(1)));
+        body.push(entry.category);
     }
-    record(3, &body)
+    record(form.candidate(), &body)
 }
 
 /// A merit list's record, from candidates counted from 0.
@@ -50,13 +52,15 @@ pub fn merit(list: &[usize]) -> Vec<u8> {
 /// The records of a round in file order.
 pub fn records(round: &Round) -> Vec<Vec<u8>> {
     let mut records = vec![head(
+        round.form,
         round.candidates.len(),
         round.institutes.len(),
         round.types,
         usize::from(round.policy),
     )];
     records.extend(round.institutes.iter().map(institute));
-    records.extend(round.candidates.iter().map(candidate));
+    let candidates = round.candidates.iter();
+    records.extend(candidates.map(|one| candidate(round.form, one)));
     records.extend(round.merit.iter().map(|list| merit(list)));
     records
 }

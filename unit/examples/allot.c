@@ -11,16 +11,18 @@ static unsigned two_bytes(const uint8_t *at) {
     return at[0] + 256u * at[1];
 }
 
-/* The lines below the offers: candidate, institute, step, type; then each institute with its six closing places. */
-static void print_answer(const uint8_t *answer, unsigned n, unsigned m) {
-    const uint8_t *types = answer + 2 * n + 12 * m;
-    for (unsigned candidate = 0; candidate < n; candidate++) {
-        printf("%u %u %u %u\n", candidate + 1, answer[2 * candidate], answer[2 * candidate + 1], types[candidate]);
+/* The lines below the offers: candidate, institute, step, type; then each institute with its six closing places. A seat has four
+   bytes in a wide round, the institute in two of them, and else two. */
+static void print_answer(const uint8_t *answer, int wide, unsigned n, unsigned m) {
+    const uint8_t *seat = answer, *place = answer + (wide ? 4 : 2) * n, *types = place + 12 * m;
+    for (unsigned candidate = 0; candidate < n; candidate++, seat += wide ? 4 : 2) {
+        unsigned institute = wide ? two_bytes(seat) : seat[0];
+        printf("%u %u %u %u\n", candidate + 1, institute, seat[wide ? 2 : 1], types[candidate]);
     }
     for (unsigned institute = 0; institute < m; institute++) {
         printf("closing %u", institute + 1);
-        for (unsigned step = 0; step < 6; step++) {
-            printf(" %u", two_bytes(answer + 2 * n + 12 * institute + 2 * step));
+        for (unsigned step = 0; step < 6; step++, place += 2) {
+            printf(" %u", two_bytes(place));
         }
         printf("\n");
     }
@@ -43,7 +45,7 @@ int main(int count, char **words) {
         return 0;
     }
     printf("offers %" PRIu64 "\n", result[1]);
-    /* The file passed, so n and m stand in its head. */
-    print_answer(answer, two_bytes(file + 4), two_bytes(file + 6));
+    /* The file passed, so its head tells the form, 5 for wide, and n and m. */
+    print_answer(answer, two_bytes(file + 2) == 5, two_bytes(file + 4), two_bytes(file + 6));
     return 0;
 }

@@ -8,17 +8,27 @@ fn two_bytes(bytes: &[u8], at: usize) -> usize {
     usize::from(u16::from_le_bytes([bytes[at], bytes[at + 1]]))
 }
 
-/// The lines below the offers: candidate, institute, step, type; then each institute with its six closing places.
-fn print_answer(answer: &[u8], n: usize, m: usize) {
-    let types = &answer[2 * n + 12 * m..];
-    for (candidate, used) in types[..n].iter().enumerate() {
-        let seat = &answer[2 * candidate..];
-        println!("{} {} {} {used}", candidate + 1, seat[0], seat[1]);
+/// The institute and the step of a seat: of four bytes in a wide round, the institute in two of them, and else of two.
+fn seat_of(seat: &[u8]) -> (usize, u8) {
+    match seat.len() {
+        4 => (two_bytes(seat, 0), seat[2]),
+        _ => (usize::from(seat[0]), seat[1]),
     }
-    for institute in 0..m {
+}
+
+/// The lines below the offers: candidate, institute, step, type; then each institute with its six closing places.
+fn print_answer(answer: &[u8], wide: bool, n: usize, m: usize) {
+    let width = if wide { 4 } else { 2 };
+    let (seats, rest) = answer.split_at(width * n);
+    let (closing, types) = rest.split_at(12 * m);
+    for (candidate, seat) in seats.chunks(width).enumerate() {
+        let (institute, step) = seat_of(seat);
+        println!("{} {institute} {step} {}", candidate + 1, types[candidate]);
+    }
+    for (institute, places) in closing.chunks(12).enumerate() {
         print!("closing {}", institute + 1);
         for step in 0..6 {
-            print!(" {}", two_bytes(answer, 2 * n + 12 * institute + 2 * step));
+            print!(" {}", two_bytes(places, 2 * step));
         }
         println!();
     }
@@ -37,8 +47,11 @@ fn main() -> ExitCode {
     let said = allot(&file, &mut answer, &mut work);
     println!("{said}");
     match said {
-        // The file passed, so n and m stand in its head.
-        Answer::Allotted { .. } => print_answer(&answer, two_bytes(&file, 4), two_bytes(&file, 6)),
+        // The file passed, so its head tells the form, 5 for wide, and n and m.
+        Answer::Allotted { .. } => {
+            let [kind, n, m] = [2, 4, 6].map(|at| two_bytes(&file, at));
+            print_answer(&answer, kind == 5, n, m);
+        }
         Answer::Refused(refusal) => eprintln!("{}", refusal.meaning()),
     }
     ExitCode::SUCCESS

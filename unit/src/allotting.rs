@@ -3,8 +3,8 @@
 use crate::answer::Answer;
 use crate::boundary::tazbilk_allot;
 
-/// Allots the seats of a round file; what both areas hold afterwards is fixed for every file by document 01, and by requests 1
-/// and 3 of document 02 for the closing places and the types.
+/// Allots the seats of a round file of either form; what both areas hold afterwards is fixed for every file by document 01, and by
+/// requests 1, 3 and 6 of document 02 for the closing places, the types and wide rounds.
 pub fn allot(file: &[u8], answer: &mut [u8], work: &mut [u8]) -> Answer {
     let mut result = [0; 3];
     // SAFETY: the unit reads the file and writes the areas and the result within the lengths given, keeps none of them, and asks for nothing else.

@@ -15,8 +15,24 @@
 //! # Ok::<(), std::io::Error>(())
 //! ```
 //!
+//! A round file whose head has kind 5 is a wide one, with up to 1,000 institutes. A seat then has four bytes: a two-byte
+//! institute, the low byte first, the step and a zero byte; four zero bytes stand for no seat. The closing places follow from byte
+//! 4n on and the types from byte 4n + 12m on, for n candidates and m institutes.
+//!
+//! ```
+//! let file = std::fs::read("../rounds/wide-institute-300.round")?;
+//! let (mut answer, mut work) = ([0; tazbilk::ANSWER_MOST], [0; tazbilk::WORK_MOST]);
+//! println!("{}", tazbilk::allot(&file, &mut answer, &mut work)); // offers 3
+//! let seat = &answer[..4]; // that of candidate 1
+//! let institute = u16::from_le_bytes([seat[0], seat[1]]);
+//! println!("candidate 1: institute {institute}, step {}", seat[2]); // institute 300, step 6
+//! # assert_eq!((institute, seat[2], seat[3]), (300, 6, 0));
+//! # Ok::<(), std::io::Error>(())
+//! ```
+//!
 //! A list of seats that was made elsewhere, two bytes for each candidate, institute and step (0 0 for none), can be reviewed: it passes
-//! just where it is stable, and otherwise what is found first is named.
+//! just where it is stable, and otherwise what is found first is named. For a wide round the list has four bytes for each candidate,
+//! as the seats in its answer area; a seat with another last byte than 0 counts as not in the row.
 //!
 //! ```
 //! use tazbilk::Judgement;
@@ -43,4 +59,5 @@ pub use answer::Answer;
 pub use judgement::Judgement;
 pub use refusal::Refusal;
 pub use reviewing::review;
-pub use sizes::{answer_size, list_size, work_size, ANSWER_MOST, FILE_MOST, LIST_MOST, WORK_MOST};
+pub use sizes::{answer_size, list_size, wide_answer_size, wide_list_size, work_size};
+pub use sizes::{ANSWER_MOST, FILE_MOST, LIST_MOST, WORK_MOST};

@@ -3,8 +3,8 @@
 use crate::boundary::tazbilk_review;
 use crate::judgement::Judgement;
 
-/// Reviews a list of seats for a round file; the judgement and what the work area holds afterwards are fixed for every file and list by
-/// request 5 of document 02.
+/// Reviews a list of seats for a round file of either form; the judgement and what the work area holds afterwards are fixed for every
+/// file and list by requests 5 and 6 of document 02.
 pub fn review(file: &[u8], list: &[u8], work: &mut [u8]) -> Judgement {
     let mut result = [0; 4];
     // SAFETY: the unit reads the file and the list and writes the work area and the result within the lengths given, keeps none of them, and asks for nothing else.

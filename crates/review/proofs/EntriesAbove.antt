@@ -24,7 +24,7 @@ use Rattle.offers.specs.Rows.{rowAt, sameCategory}
 use Rattle.offers.proofs.Sweeps.Known.{candidates-many, institutes-many, round-sound}
 use Rattle.review.specs.Finding.{passes, betterEntry, wouldTake, above, best, better, entryFinding}
 use Rattle.review.specs.Outcome as Outcome
-use Rattle.review.specs.Outcome.{listOf}
+use Rattle.review.specs.Outcome.{listFor}
 use Rattle.review.specs.Tables.{UnderReview, AllRead, offersWith}
 use Rattle.review.proofs.InRow.{above-within}
 use Rattle.review.proofs.FirstFound.{PassedOver, one-failed, found, none-found}
@@ -37,7 +37,7 @@ read-still file list asked₀ wanted₀ read e d = rw (e, d) read
 
 -- the entry at place k of candidate i's row would be chosen
 abbrev pub takesAt : List ℕ → List ℕ → ℕ → ℕ → Bool
-takesAt file list i k = wouldTake (roundOf file) (listOf (roundOf file) list) i (entryAt (candidateAt (roundOf file) i) k)
+takesAt file list i k = wouldTake (roundOf file) (listFor file list) i (entryAt (candidateAt (roundOf file) i) k)
 
 -- of the entry at place k of candidate i's row, as the code has read it
 module _ {file : List ℕ} {h : Head} {candidates merits list : List ℕ} (at : UnderReview file h candidates merits list)
@@ -59,9 +59,9 @@ module _ {file : List ℕ} {h : Head} {candidates merits list : List ℕ} (at : 
   pub would-be-taken : {asked wanted : List ℕ} → AllRead file list asked wanted → {step : ℕ} {yes : Bool}
       → step ≡ stepFor (roundOf file) (entry .institute - 1) (offersWith (entry .institute - 1) i (entry .category) asked wanted) i
       → yes ≡ (not (eqb step 0) && sameCategory (categoryOf (step - 1)) (entry .category))
-      → yes ≡ wouldTake (roundOf file) (listOf (roundOf file) list) i (entryAt (candidateAt (roundOf file) i) k)
+      → yes ≡ wouldTake (roundOf file) (listFor file list) i (entryAt (candidateAt (roundOf file) i) k)
   unfolding wouldTake takenFrom
-  would-be-taken {asked} {wanted} read {step} {yes} s t = here ∙ ap (wouldTake (roundOf file) (listOf (roundOf file) list) i) reads
+  would-be-taken {asked} {wanted} read {step} {yes} s t = here ∙ ap (wouldTake (roundOf file) (listFor file list) i) reads
     where
       j : ℕ
       j = entry .institute - 1
@@ -69,7 +69,7 @@ module _ {file : List ℕ} {h : Head} {candidates merits list : List ℕ} (at : 
       most : j < instituteCount (roundOf file)
       most = omega (arith, institute-least, institute-most)
 
-      here : yes ≡ wouldTake (roundOf file) (listOf (roundOf file) list) i entry
+      here : yes ≡ wouldTake (roundOf file) (listFor file list) i entry
       here =
           t
           ∙ rw (
@@ -78,21 +78,21 @@ module _ {file : List ℕ} {h : Head} {candidates merits list : List ℕ} (at : 
             step-category file j _ (omega (arith, most, length-institutes file)),
           )
 
-pub above-fits : (file list : List ℕ) (i : ℕ) {size : ℕ} → size ≡ above (roundOf file) (listOf (roundOf file) list) i
+pub above-fits : (file list : List ℕ) (i : ℕ) {size : ℕ} → size ≡ above (roundOf file) (listFor file list) i
     → size ≤ length (rowAt (roundOf file) i)
-above-fits file list i e = rw e (above-within (roundOf file) (listOf (roundOf file) list) i)
+above-fits file list i e = rw e (above-within (roundOf file) (listFor file list) i)
 
-pub place-fits : (file list : List ℕ) (i : ℕ) {k size : ℕ} → size ≡ above (roundOf file) (listOf (roundOf file) list) i → k < size
+pub place-fits : (file list : List ℕ) (i : ℕ) {k size : ℕ} → size ≡ above (roundOf file) (listFor file list) i → k < size
     → k < length (rowAt (roundOf file) i)
 place-fits file list i e l = omega (arith, above-fits file list i e)
 
 -- no entry above the seats of the first i candidates would be chosen
-module _ (file list : List ℕ) {i : ℕ} (over : PassedOver (better (roundOf file) (listOf (roundOf file) list)) i) where
+module _ (file list : List ℕ) {i : ℕ} (over : PassedOver (better (roundOf file) (listFor file list)) i) where
   abbrev r : Round
   r = roundOf file
 
   abbrev seats : List Seat
-  seats = listOf r list
+  seats = listFor file list
 
   -- how many entries rank above candidate i's seat, and the place of the best of them that would be chosen
   module _ {size k : ℕ} (all : size ≡ above r seats i) (best-of : k ≡ first size (takesAt file list i)) where

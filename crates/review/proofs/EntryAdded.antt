@@ -23,7 +23,7 @@ use Rattle.offers.specs.Process.{candidateCount, instituteCount}
 use Rattle.offers.specs.Sweeps.{offerTo, offersBy}
 use Rattle.offers.proofs.Sweeps.Lasts.{holds-only}
 use Rattle.review.specs.Finding.{withEntry}
-use Rattle.review.specs.Outcome.{listOf}
+use Rattle.review.specs.Outcome.{listFor}
 use Rattle.review.specs.Tables.{AllRead, askedWith, wantedWith, offersWith}
 use Rattle.review.proofs.SeatsOffered.{offers-listed}
 
@@ -79,7 +79,7 @@ module _ (file list : List ℕ) {asked wanted : List ℕ} (read : AllRead file l
     (i : ℕ) (inside : i < candidateCount (roundOf file)) where
   -- candidate k's offer of a category d, where i's of a category c is added
   offer-added : (j : ℕ) → j < instituteCount (roundOf file) → (c : Category) (k : ℕ) (d : Category)
-      → offersWith j i c asked wanted k d ≡ withEntry (roundOf file) (listOf (roundOf file) list) j i c k d
+      → offersWith j i c asked wanted k d ≡ withEntry (roundOf file) (listFor file list) j i c k d
   unfolding offersWith askedWith wantedWith withEntry offersBy
   offer-added j l c k d = rw (← offers-listed file list read j l) (sameOr k i own other)
     where
@@ -96,5 +96,5 @@ module _ (file list : List ℕ) {asked wanted : List ℕ} (read : AllRead file l
       other n = rw (offer-kept (suc j) i v asked wanted k n, ne-eqb k i n, or-false)
 
   pub offers-added : (j : ℕ) → j < instituteCount (roundOf file) → (c : Category)
-      → offersWith j i c asked wanted ≡ withEntry (roundOf file) (listOf (roundOf file) list) j i c
+      → offersWith j i c asked wanted ≡ withEntry (roundOf file) (listFor file list) j i c
   offers-added j l c = fun-ext (λ k. fun-ext (λ d. offer-added j l c k d))

@@ -7,7 +7,9 @@ use mathlib.Core.List.{List, _++_}
 use borrow.Author.Tests.{eq-eqb, ne-eqb, le-leb, lt-leb}
 use lib.Dec.{eqb, leb}
 use lib.ListN.{length, drop, replicate}
+use Rattle.round.specs.declared.form.Form.{Form}
 use Rattle.round.specs.Round.{Round}
+use Rattle.round.specs.Records.{formOf}
 use Rattle.round.specs.Reading.{roundOf}
 use Rattle.round.specs.Refusal as Refusal
 use Rattle.round.specs.Refusal.{Verdict, verdict}
@@ -19,7 +21,7 @@ use Rattle.offers.specs.Stable.{Stable}
 use Rattle.review.specs.declared.Judgement.{Judgement}
 use Rattle.review.specs.declared.Judgement.the-variants.{Refused}
 use Rattle.review.specs.Finding.{Finding, passes, finding}
-use Rattle.review.specs.Outcome.{found, refused, outcomeOf, listSize, listOf, outcome, outcomeBy, workAfter, Reviewed, Passing}
+use Rattle.review.specs.Outcome.{found, refused, outcomeOf, listSize, listOf, listFor, outcome, outcomeBy, workAfter, Reviewed, Passing}
 use Rattle.review.specs.Promise.{Promise}
 use Rattle.review.proofs.Stability.{passes-stable, stable-passes, own-passes}
 
@@ -30,15 +32,15 @@ module _ (file list : List ℕ) (w : ℕ) where
   outcome-refused number offset e = rw e
 
   module _ (pass : verdict file ≡ Refusal.passes) where
-    outcome-other-size : length list ≢ listSize (roundOf file) → outcome file list w ≡ refused 15 0
+    outcome-other-size : length list ≢ listSize (formOf file) (roundOf file) → outcome file list w ≡ refused 15 0
     unfolding outcome
     outcome-other-size d = rw (pass, ne-eqb _ _ d)
 
-    outcome-work-small : length list ≡ listSize (roundOf file) → w < workSize (roundOf file) → outcome file list w ≡ refused 14 0
+    outcome-work-small : length list ≡ listSize (formOf file) (roundOf file) → w < workSize (roundOf file) → outcome file list w ≡ refused 14 0
     unfolding outcome
     outcome-work-small e l = rw (pass, eq-eqb _ _ e, lt-leb (workSize (roundOf file)) w l)
 
-    outcome-found : length list ≡ listSize (roundOf file) → workSize (roundOf file) ≤ w → outcome file list w ≡ found (finding (roundOf file) (listOf (roundOf file) list))
+    outcome-found : length list ≡ listSize (formOf file) (roundOf file) → workSize (roundOf file) ≤ w → outcome file list w ≡ found (finding (roundOf file) (listFor file list))
     unfolding outcome
     outcome-found e l = rw (pass, eq-eqb _ _ e, le-leb (workSize (roundOf file)) w l)
 
@@ -48,31 +50,31 @@ found-in true true f what e = cc
 found-in true false f what e = cc
 found-in false b f what e = cc
 
-found-by : (v : Verdict) (r : Round) (list : List ℕ) (w : ℕ) {what : Finding} → outcomeBy v r list w ≡ found what
-    → (v ≡ Refusal.passes) × (what ≡ finding r (listOf r list))
-found-by Refusal.passes r list w e = (refl, found-in (eqb (length list) (listSize r)) (leb (workSize r) w) _ _ e)
-found-by (Refusal.refused number offset) r list w e = (cc, cc)
+found-by : (v : Verdict) (form : Form) (r : Round) (list : List ℕ) (w : ℕ) {what : Finding} → outcomeBy v form r list w ≡ found what
+    → (v ≡ Refusal.passes) × (what ≡ finding r (listOf form r list))
+found-by Refusal.passes form r list w e = (refl, found-in (eqb (length list) (listSize form r)) (leb (workSize r) w) _ _ e)
+found-by (Refusal.refused number offset) form r list w e = (cc, cc)
 
-list-many : (r : Round) (list : List ℕ) → length (listOf r list) ≡ candidateCount r
+list-many : (file list : List ℕ) → length (listFor file list) ≡ candidateCount (roundOf file)
 unfolding seatsIn
-list-many r list = length-tabulate 0 (candidateCount r) (seatIn list)
+list-many file list = length-tabulate 0 (candidateCount (roundOf file)) (seatIn (formOf file) list)
 
 module _ (file list work : List ℕ) where
-  reviewed-found : {what : Finding} → outcome file list (length work) ≡ found what → (verdict file ≡ Refusal.passes) × (what ≡ finding (roundOf file) (listOf (roundOf file) list))
+  reviewed-found : {what : Finding} → outcome file list (length work) ≡ found what → (verdict file ≡ Refusal.passes) × (what ≡ finding (roundOf file) (listFor file list))
   unfolding outcome
-  reviewed-found e = found-by (verdict file) (roundOf file) list (length work) e
+  reviewed-found e = found-by (verdict file) (formOf file) (roundOf file) list (length work) e
 
-  only-stable : Passing file list work → Stable (roundOf file) (listOf (roundOf file) list)
+  only-stable : Passing file list work → Stable (roundOf file) (listFor file list)
   only-stable e =
       let (pass, is) = reviewed-found e in
-      passes-stable (sound file pass) (listOf (roundOf file) list) (list-many (roundOf file) list) (sym is)
+      passes-stable (sound file pass) (listFor file list) (list-many file list) (sym is)
 
-  every-stable : Reviewed file list work → Stable (roundOf file) (listOf (roundOf file) list) → Passing file list work
+  every-stable : Reviewed file list work → Stable (roundOf file) (listFor file list) → Passing file list work
   every-stable (what, e) stable =
       let (pass, is) = reviewed-found e in
-      e ∙ ap found (is ∙ stable-passes (sound file pass) (listOf (roundOf file) list) (list-many (roundOf file) list) stable)
+      e ∙ ap found (is ∙ stable-passes (sound file pass) (listFor file list) (list-many file list) stable)
 
-  own-list : Reviewed file list work → listOf (roundOf file) list ≡ seats (roundOf file) → Passing file list work
+  own-list : Reviewed file list work → listFor file list ≡ seats (roundOf file) → Passing file list work
   own-list (what, e) own =
       let (pass, is) = reviewed-found e in
       e ∙ ap found (is ∙ ap (finding (roundOf file)) own ∙ own-passes (sound file pass))
@@ -95,15 +97,15 @@ module _ (file list work : List ℕ) where
   pub promise-refused : (number offset : ℕ) → verdict file ≡ Refusal.refused number offset → Promise file list work (Refused number offset) work
   promise-refused number offset e = refuses number offset (outcome-refused file list (length work) number offset e)
 
-  pub promise-other-size : verdict file ≡ Refusal.passes → length list ≢ listSize (roundOf file) → Promise file list work (Refused 15 0) work
+  pub promise-other-size : verdict file ≡ Refusal.passes → length list ≢ listSize (formOf file) (roundOf file) → Promise file list work (Refused 15 0) work
   promise-other-size e d = refuses 15 0 (outcome-other-size file list (length work) e d)
 
-  pub promise-work-small : verdict file ≡ Refusal.passes → length list ≡ listSize (roundOf file) → length work < workSize (roundOf file)
+  pub promise-work-small : verdict file ≡ Refusal.passes → length list ≡ listSize (formOf file) (roundOf file) → length work < workSize (roundOf file)
       → Promise file list work (Refused 14 0) work
   promise-work-small e s l = refuses 14 0 (outcome-work-small file list (length work) e s l)
 
-  pub promise-found : verdict file ≡ Refusal.passes → length list ≡ listSize (roundOf file) → workSize (roundOf file) ≤ length work
-      → (result : Judgement) (workNow : List ℕ) → outcomeOf result ≡ found (finding (roundOf file) (listOf (roundOf file) list))
+  pub promise-found : verdict file ≡ Refusal.passes → length list ≡ listSize (formOf file) (roundOf file) → workSize (roundOf file) ≤ length work
+      → (result : Judgement) (workNow : List ℕ) → outcomeOf result ≡ found (finding (roundOf file) (listFor file list))
       → workNow ≡ replicate (workSize (roundOf file)) 0 ++ drop (workSize (roundOf file)) work
       → Promise file list work result workNow
   unfolding workAfter

@@ -1,5 +1,5 @@
 -- The offers that the tables have are the listed seats that are in their rows.
-use Prim.Native.Nat.{ℕ, suc, _+_, _*_, _-_, _^_, _<_}
+use Prim.Native.Nat.{ℕ, suc, _-_, _^_, _<_}
 use mathlib.Core.Path.{_≡_, fun-ext}
 use mathlib.Core.Bool.{Bool, true, false, cond, _&&_}
 use mathlib.Core.List.{List}
@@ -10,6 +10,7 @@ use borrow.Author.Tests.{ne-eqb}
 use Rattle.round.specs.declared.entry.Category.{Category}
 use Rattle.round.specs.Category.{codeOf, categoryOf}
 use Rattle.round.specs.Round.{Round}
+use Rattle.round.specs.Records.{formOf}
 use Rattle.round.specs.Reading.{roundOf}
 use Rattle.round.proofs.Words.{tabulate-at}
 use Rattle.round.proofs.Sound.{step-category, length-institutes}
@@ -22,15 +23,14 @@ use Rattle.offers.specs.Stable.{seatOn, given}
 use Rattle.offers.specs.Sweeps.{offerTo, offersBy}
 use Rattle.offers.proofs.Sweeps.Lasts.{holds-only, holds-none}
 use Rattle.review.specs.Finding.{inRow, listedAt}
-use Rattle.review.specs.Outcome.{listOf}
+use Rattle.review.specs.Outcome.{listFor}
 use Rattle.review.specs.Tables.{AllRead}
 use Rattle.review.proofs.InRow.{in-row, row-beyond}
 
--- the seat of candidate i is the two bytes at 2i
-pub seat-at : (r : Round) (list : List ℕ) (i : ℕ) → i < candidateCount r
-    → seatOn (listOf r list) i ≡ record { institute = getD list (2 * i) 0; step = getD list (2 * i + 1) 0 }
-unfolding seatsIn seatIn
-seat-at r list i l = tabulate-at (candidateCount r) (seatIn list) noSeat i l
+-- the seat of candidate i is read from the bytes by the form of the file
+pub seat-at : (file list : List ℕ) (i : ℕ) → i < candidateCount (roundOf file) → seatOn (listFor file list) i ≡ seatIn (formOf file) list i
+unfolding seatsIn
+seat-at file list i l = tabulate-at (candidateCount (roundOf file)) (seatIn (formOf file) list) noSeat i l
 
 -- the tables have every listed seat that is in its row
 module _ (file list : List ℕ) {asked wanted : List ℕ} (read : AllRead file list asked wanted) where
@@ -38,7 +38,7 @@ module _ (file list : List ℕ) {asked wanted : List ℕ} (read : AllRead file l
   r = roundOf file
 
   abbrev seats : List Seat
-  seats = listOf r list
+  seats = listFor file list
 
   -- who has no seat in the row has no offer
   pub no-offer : (i : ℕ) → inRow r seats i ≡ false → getD asked i 0 ≡ 0

@@ -9,15 +9,17 @@ use lib.Seq.{getD-set-same, getD-set-other}
 use Rattle.round.specs.declared.entry.Category.{Category}
 use Rattle.round.specs.declared.head.Head.{Head}
 use Rattle.round.specs.Category.{codeOf, categoryOf}
+use Rattle.round.specs.Form.{seatWidth}
 use Rattle.round.specs.Round.{Round}
 use Rattle.round.specs.Reading.{roundOf}
 use Rattle.choice.proofs.Counting.{clash, sameOr}
 use Rattle.choice.proofs.Steps.{sized}
 use Rattle.choice.proofs.Tabulate.{getD-zeros}
 use Rattle.offers.specs.Process.{Seat}
+use Rattle.offers.specs.Areas.{seatIn}
 use Rattle.offers.proofs.Sweeps.Known.{candidates-many}
 use Rattle.review.specs.Finding.{inRow}
-use Rattle.review.specs.Outcome.{listOf}
+use Rattle.review.specs.Outcome.{listFor}
 use Rattle.review.specs.Tables.{UnderReview, SeatsRead, AllRead}
 use Rattle.review.proofs.InRow.{row-numbers}
 use Rattle.review.proofs.SeatsRanked.{bytes-seat}
@@ -27,7 +29,7 @@ module _ {file : List ℕ} {h : Head} {candidates merits list : List ℕ} (at : 
   r = roundOf file
 
   abbrev seats : List Seat
-  seats = listOf r list
+  seats = listFor file list
 
   pub none-read : {asked wanted : List ℕ} → asked ≡ replicate (h .candidates) 0 → length wanted ≡ h .candidates → SeatsRead r seats 0 asked wanted
   none-read e many = record {
@@ -46,14 +48,22 @@ module _ {file : List ℕ} {h : Head} {candidates merits list : List ℕ} (at : 
   pub wanted-long : {k : ℕ} {asked wanted : List ℕ} → SeatsRead r seats k asked wanted → length wanted ≡ h .candidates
   wanted-long s = s .wanted-many ∙ candidates-many (at .hand)
 
+  -- and the list has a seat's bytes for each of these places
+  pub list-long : {k : ℕ} {asked wanted : List ℕ} → SeatsRead r seats k asked wanted → length list ≡ seatWidth (h .form) * length asked
+  list-long s = at .size ∙ ap (λ (n : ℕ). seatWidth (h .form) * n) (sym (asked-long s))
+
   -- all candidates are passed
   pub all-read : {k : ℕ} {asked wanted : List ℕ} → SeatsRead r seats k asked wanted → k ≡ h .candidates → AllRead file list asked wanted
   all-read {asked = asked} {wanted = wanted} s e = subst (λ n. SeatsRead r seats n asked wanted) (e ∙ sym (candidates-many (at .hand))) s
 
   module _ {k : ℕ} (inside : k < h .candidates) {b : Bool} (told : b ≡ inRow r seats k) where
-    -- the seat in the row has a step of at least 1
-    pub row-step-least : b ≡ true → 1 ≤ getD list (2 * k + 1) 0
-    row-step-least t = omega (arith, row-numbers r seats k (sym told ∙ t), ap (λ (s : Seat). s .step) (bytes-seat at inside))
+    -- the seat in the row has a step of at least 1 that fits into a byte, as the code has read it
+    module _ {step : ℕ} (reads-step : step ≡ seatIn (h .form) list k .step) (t : b ≡ true) where
+      pub row-step-least : 1 ≤ step
+      row-step-least = omega (arith, row-numbers r seats k (sym told ∙ t), ap (λ (s : Seat). s .step) (bytes-seat at inside))
+
+      pub row-step-few : step < 256
+      row-step-few = omega (arith, row-numbers r seats k (sym told ∙ t), ap (λ (s : Seat). s .step) (bytes-seat at inside))
 
     module _ {asked wanted : List ℕ} (s : SeatsRead r seats k asked wanted) where
       pub one-skipped : b ≡ false → {asked' wanted' : List ℕ} → asked' ≡ asked → wanted' ≡ wanted → SeatsRead r seats (k + 1) asked' wanted'
@@ -68,10 +78,10 @@ module _ {file : List ℕ} {h : Head} {candidates merits list : List ℕ} (at : 
             later = λ i l. s .later i (omega arith);
           }
 
-      pub one-read : b ≡ true → {asked' wanted' : List ℕ} {number categories : ℕ} {c : Category} → number ≡ getD list (2 * k) 0
-          → c ≡ categoryOf (getD list (2 * k + 1) 0 - 1) → categories ≡ 2 ^ codeOf c → asked' ≡ set asked k number → wanted' ≡ set wanted k categories
-          → SeatsRead r seats (k + 1) asked' wanted'
-      one-read t {number = number} {categories = categories} en ec es ea ew =
+      pub one-read : b ≡ true → {asked' wanted' : List ℕ} {number step categories : ℕ} {c : Category} → number ≡ seatIn (h .form) list k .institute
+          → step ≡ seatIn (h .form) list k .step → c ≡ categoryOf (step - 1) → categories ≡ 2 ^ codeOf c
+          → asked' ≡ set asked k number → wanted' ≡ set wanted k categories → SeatsRead r seats (k + 1) asked' wanted'
+      one-read t {number = number} {categories = categories} en ep ec es ea ew =
           let in-asked : k < length asked = omega (arith, asked-long s) in
           let in-wanted : k < length wanted = omega (arith, wanted-long s) in
           rw (ea, ew)
@@ -82,7 +92,7 @@ module _ {file : List ℕ} {h : Head} {candidates merits list : List ℕ} (at : 
                 (λ e. rw (e, bytes-seat at inside) (getD-set-same asked k number 0 in-asked ∙ en))
                 (λ d. getD-set-other asked k i number 0 d ∙ s .asked-at i (omega arith) u);
             wanted-at = λ i l u. sameOr i k
-                (λ e. rw (e, bytes-seat at inside) (getD-set-same wanted k categories 0 in-wanted ∙ es ∙ ap (λ (x : Category). 2 ^ codeOf x) ec))
+                (λ e. rw (e, bytes-seat at inside, ← ep) (getD-set-same wanted k categories 0 in-wanted ∙ es ∙ ap (λ (x : Category). 2 ^ codeOf x) ec))
                 (λ d. getD-set-other wanted k i categories 0 d ∙ s .wanted-at i (omega arith) u);
             nobody = λ i l n. sameOr i k
                 (λ e. clash (sym told ∙ t) (rw e at n))

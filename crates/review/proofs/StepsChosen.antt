@@ -48,7 +48,7 @@ module _ (r : Round) (j : ℕ) (offer : ℕ → ℕ) (i : ℕ) where
 -- every institute of a file has chosen, and nobody had a step before
 module _ {file : List ℕ} {h : Head} {candidates merits : List ℕ} (at : AtHand file h candidates merits)
     {asked wanted fresh steps₀ steps : List ℕ} (chosen : ChosenAll (roundOf file) asked wanted fresh (h .institutes) steps₀ steps)
-    (marked : fresh ≡ replicate 32 1) (none : steps₀ ≡ replicate (h .candidates) 0) where
+    (marked : fresh ≡ replicate 1000 1) (none : steps₀ ≡ replicate (h .candidates) 0) where
   abbrev r : Round
   r = roundOf file
 
@@ -59,7 +59,7 @@ module _ {file : List ℕ} {h : Head} {candidates merits : List ℕ} (at : AtHan
       → getD steps i 0 ≡ stepFor r j (offersBy (offerTo (suc j) asked wanted)) i
   step-chosen i j hi e l =
       let offer : ℕ → ℕ = offerTo (suc j) asked wanted in
-      let mark : getD fresh j 0 ≡ 1 = ap (λ (l : List ℕ). getD l j 0) marked ∙ getD-replicate 32 j 1 0 (omega (arith, institutes-few at)) in
+      let mark : getD fresh j 0 ≡ 1 = ap (λ (l : List ℕ). getD l j 0) marked ∙ getD-replicate 1000 j 1 0 (omega (arith, institutes-few at)) in
       chosen .chose i j hi l e (λ z. omega arith)
       ∙ test (takesPart r j offer i) (λ t. rw t) (λ f. rw f (no-step i ∙ sym (no-part-no-step r j offer i f)))
 

@@ -6,7 +6,7 @@ use mathlib.Core.List.{List, [], _∷_, _++_, map}
 use Rattle.round.specs.declared.entry.Category.the-variants.{Open, OBC}
 use Rattle.round.specs.declared.entry.Category.{Category}
 use Rattle.round.specs.Lists.{joined, greatest}
-use Rattle.round.specs.Records.{startOf}
+use Rattle.round.specs.Records.{startOf, formOf}
 use Rattle.round.specs.Questions.{questionsAt}
 use Rattle.round.specs.Refusal.{verdict, verdictFrom}
 use Rattle.round.specs.Reading.{stepIn, dereserved, stepsIn, entryIn, candidateIn, instituteFrom, roundOf}
@@ -33,6 +33,18 @@ fileA =
     ∷ (0x04 ∷ 0x00 ∷ 0x03 ∷ 0x00 ∷ 0x00 ∷ 0x00 ∷ 0x01 ∷ 0x00 ∷ [])
     ∷ (0x06 ∷ 0x00 ∷ 0x03 ∷ 0x00 ∷ 0x03 ∷ 0x00 ∷ 0x01 ∷ 0x00 ∷ 0x01 ∷ 0x03 ∷ [])
     ∷ (0x04 ∷ 0x00 ∷ 0x03 ∷ 0x00 ∷ 0x00 ∷ 0x01 ∷ 0x01 ∷ 0x00 ∷ [])
+    ∷ (0x06 ∷ 0x00 ∷ 0x04 ∷ 0x00 ∷ 0x01 ∷ 0x00 ∷ 0x02 ∷ 0x00 ∷ 0x03 ∷ 0x00 ∷ [])
+    ∷ [])
+
+-- A as a wide file
+abbrev wideA : Bytes
+wideA =
+    joined
+    ((0x08 ∷ 0x00 ∷ 0x05 ∷ 0x00 ∷ 0x03 ∷ 0x00 ∷ 0x01 ∷ 0x00 ∷ 0x01 ∷ 0x00 ∷ 0x01 ∷ 0x00 ∷ [])
+    ∷ (0x14 ∷ 0x00 ∷ 0x02 ∷ 0x00 ∷ 0x01 ∷ 0x00 ∷ 0x01 ∷ 0x00 ∷ 0x00 ∷ 0x00 ∷ 0x00 ∷ 0x00 ∷ 0x00 ∷ 0x00 ∷ 0x00 ∷ 0x00 ∷ 0x01 ∷ 0x00 ∷ 0x00 ∷ 0x00 ∷ 0x00 ∷ 0x00 ∷ 0x00 ∷ 0x00 ∷ [])
+    ∷ (0x05 ∷ 0x00 ∷ 0x06 ∷ 0x00 ∷ 0x00 ∷ 0x00 ∷ 0x01 ∷ 0x00 ∷ 0x00 ∷ [])
+    ∷ (0x08 ∷ 0x00 ∷ 0x06 ∷ 0x00 ∷ 0x03 ∷ 0x00 ∷ 0x01 ∷ 0x00 ∷ 0x00 ∷ 0x01 ∷ 0x00 ∷ 0x03 ∷ [])
+    ∷ (0x05 ∷ 0x00 ∷ 0x06 ∷ 0x00 ∷ 0x00 ∷ 0x01 ∷ 0x01 ∷ 0x00 ∷ 0x00 ∷ [])
     ∷ (0x06 ∷ 0x00 ∷ 0x04 ∷ 0x00 ∷ 0x01 ∷ 0x00 ∷ 0x02 ∷ 0x00 ∷ 0x03 ∷ 0x00 ∷ [])
     ∷ [])
 
@@ -88,6 +100,9 @@ entryFound candidate institute category = found (betterEntry candidate (record {
 
 abbrev table : List Case
 table =
+    -- 4n-bytes
+    says fileA (0x00 ∷ 0x00 ∷ 0x00 ∷ 0x00 ∷ 0x01 ∷ 0x00 ∷ 0x04 ∷ 0x00 ∷ 0x01 ∷ 0x00 ∷ 0x01 ∷ 0x00 ∷ []) (refused 15 0)
+    ∷
     -- another-that-passes
     says twoThatPass (0x01 ∷ 0x04 ∷ 0x01 ∷ 0x01 ∷ []) (found passes)
     ∷
@@ -142,9 +157,21 @@ table =
     -- step-7
     says fileA (0x00 ∷ 0x00 ∷ 0x01 ∷ 0x04 ∷ 0x01 ∷ 0x07 ∷ []) (found (wrongSeat 3))
     ∷
+    -- wide-2n-bytes
+    says wideA (0x00 ∷ 0x00 ∷ 0x01 ∷ 0x04 ∷ 0x01 ∷ 0x01 ∷ []) (refused 15 0)
+    ∷
+    -- wide-last-byte-1
+    says wideA (0x00 ∷ 0x00 ∷ 0x00 ∷ 0x00 ∷ 0x01 ∷ 0x00 ∷ 0x04 ∷ 0x01 ∷ 0x01 ∷ 0x00 ∷ 0x01 ∷ 0x00 ∷ []) (found (wrongSeat 2))
+    ∷
+    -- wide-none-last-byte-1
+    says wideA (0x00 ∷ 0x00 ∷ 0x00 ∷ 0x01 ∷ 0x01 ∷ 0x00 ∷ 0x04 ∷ 0x00 ∷ 0x01 ∷ 0x00 ∷ 0x01 ∷ 0x00 ∷ []) (found (wrongSeat 1))
+    ∷
+    -- wide-own
+    says wideA (0x00 ∷ 0x00 ∷ 0x00 ∷ 0x00 ∷ 0x01 ∷ 0x00 ∷ 0x04 ∷ 0x00 ∷ 0x01 ∷ 0x00 ∷ 0x01 ∷ 0x00 ∷ []) (found passes)
+    ∷
     []
 
 -- with a work area that suffices for each
 pub worked : map (λ c. outcome (c .file) (c .list) 24) table ≡ map (λ c. c .expected) table
-unfolding startOf questionsAt verdict verdictFrom stepIn dereserved stepsIn entryIn candidateIn instituteFrom roundOf holds oneLess greatest useOf raises takenBefore takenForUse remaining takenByMerit taken considers positionsAt takenAt vacantAt advance advanceAll nothingDone choose rankIn placeOn stepsOn stepFor takenFrom seatIn seatsIn isStep seatRank given inRow listedAt stepDue wrong withEntry wouldTake above best better entryFinding finding outcome
+unfolding startOf formOf questionsAt verdict verdictFrom stepIn dereserved stepsIn entryIn candidateIn instituteFrom roundOf holds oneLess greatest useOf raises takenBefore takenForUse remaining takenByMerit taken considers positionsAt takenAt vacantAt advance advanceAll nothingDone choose rankIn placeOn stepsOn stepFor takenFrom seatIn seatsIn isStep seatRank given inRow listedAt stepDue wrong withEntry wouldTake above best better entryFinding finding outcome
 worked = refl

@@ -1,5 +1,5 @@
 -- The seats that are wrong by the bytes of the list and the tables are those that are wrong by the seats and the steps due.
-use Prim.Native.Nat.{ℕ, suc, _+_, _*_, _-_, _<_}
+use Prim.Native.Nat.{ℕ, suc, _-_, _<_}
 use mathlib.Core.Path.{_≡_, sym, _∙_, ap}
 use mathlib.Core.Bool.{true, false, not, _&&_, and-false}
 use mathlib.Core.Logic.{_≢_}
@@ -8,47 +8,56 @@ use native.Mathlib.Omega.{arith}
 use lib.Dec.{eqb}
 use lib.ListN.{getD}
 use borrow.Author.Tests.{eq-eqb, ne-eqb}
+use Rattle.round.specs.declared.form.Form.{Form}
 use Rattle.round.specs.Lists.{first}
 use Rattle.round.specs.Round.{Round}
+use Rattle.round.specs.Records.{formOf}
 use Rattle.round.specs.Reading.{roundOf}
 use Rattle.choice.proofs.Counting.{test}
 use Rattle.offers.specs.Offers.{OfferSet, stepFor}
 use Rattle.offers.specs.Process.{Seat, isNone, candidateCount}
+use Rattle.offers.specs.Areas.{seatIn}
 use Rattle.offers.specs.Stable.{seatOn}
 use Rattle.review.specs.Finding.{inRow, stepDue, wrong}
-use Rattle.review.specs.Outcome.{listOf}
+use Rattle.review.specs.Outcome.{listFor}
 use Rattle.review.specs.Tables.{AllRead, StepsGiven, wrongBy}
 use Rattle.review.proofs.FirstFound.{first-ext}
 use Rattle.review.proofs.InRow.{row-numbers}
 use Rattle.review.proofs.SeatsOffered.{seat-at, no-offer, offers-listed}
 
--- candidate i has a seat, by the bytes of the list
-pub record SomeSeat (list : List ℕ) (i : ℕ) : Type 0 where
-  pub some : (eqb (getD list (2 * i) 0) 0 && eqb (getD list (2 * i + 1) 0) 0) ≡ false
+-- a seat is some
+pub record SomeSeat (s : Seat) : Type 0 where
+  pub some : isNone s ≡ false
 
-pub some-institute : (list : List ℕ) (i : ℕ) → getD list (2 * i) 0 ≢ 0 → SomeSeat list i
-some-institute list i d = record { some = rw (ne-eqb (getD list (2 * i) 0) 0 d) }
+-- by the institute and the step that the code has read of it
+module _ (s : Seat) {institute : ℕ} (reads : institute ≡ s .institute) where
+  pub some-institute : institute ≢ 0 → SomeSeat s
+  some-institute d = record { some = rw (ne-eqb (s .institute) 0 (λ e. d (reads ∙ e))) }
 
-pub some-step : (list : List ℕ) (i : ℕ) → eqb (getD list (2 * i + 1) 0) 0 ≡ false → SomeSeat list i
-some-step list i f = record { some = rw f (and-false (eqb (getD list (2 * i) 0) 0)) }
+  module _ {step : ℕ} (reads-step : step ≡ s .step) where
+    pub some-step : eqb step 0 ≡ false → SomeSeat s
+    some-step f = record { some = rw (← reads-step, f) (and-false (eqb (s .institute) 0)) }
+
+    pub no-seat : institute ≡ 0 → eqb step 0 ≡ true → isNone s ≡ true
+    no-seat e t = rw (← reads-step, eq-eqb (s .institute) 0 (sym reads ∙ e), t)
 
 -- the tests by which the code finds a seat wrong, or not
-module _ (list asked steps : List ℕ) (i : ℕ) where
+module _ (form : Form) (list asked steps : List ℕ) (i : ℕ) where
   -- there is no seat
-  pub nothing-wrong : getD list (2 * i) 0 ≡ 0 → eqb (getD list (2 * i + 1) 0) 0 ≡ true → false ≡ wrongBy list asked steps i
+  pub nothing-wrong : isNone (seatIn form list i) ≡ true → false ≡ wrongBy form list asked steps i
   unfolding wrongBy
-  nothing-wrong e t = rw (eq-eqb (getD list (2 * i) 0) 0 e, t)
+  nothing-wrong t = rw t
 
   -- there is a seat and no offer
-  pub wrong-unoffered : SomeSeat list i → getD asked i 0 ≡ 0 → eqb (getD asked i 0) 0 ≡ wrongBy list asked steps i
+  pub wrong-unoffered : SomeSeat (seatIn form list i) → getD asked i 0 ≡ 0 → eqb (getD asked i 0) 0 ≡ wrongBy form list asked steps i
   unfolding wrongBy
   wrong-unoffered s e = rw (s .some, eq-eqb (getD asked i 0) 0 e)
 
   -- there is a seat and an offer: the step decides
-  pub wrong-stepped : SomeSeat list i → getD asked i 0 ≢ 0
-      → not (eqb (getD steps i 0) (getD list (2 * i + 1) 0)) ≡ wrongBy list asked steps i
+  pub wrong-stepped : SomeSeat (seatIn form list i) → getD asked i 0 ≢ 0 → {given step : ℕ} → given ≡ getD steps i 0
+      → step ≡ seatIn form list i .step → not (eqb given step) ≡ wrongBy form list asked steps i
   unfolding wrongBy
-  wrong-stepped s d = rw (s .some, ne-eqb (getD asked i 0) 0 d)
+  wrong-stepped s d e f = rw (s .some, ne-eqb (getD asked i 0) 0 d, e, f)
 
 module _ (file list : List ℕ) {asked wanted steps : List ℕ}
     (read : AllRead file list asked wanted) (steps-given : StepsGiven (roundOf file) asked wanted steps) where
@@ -56,7 +65,7 @@ module _ (file list : List ℕ) {asked wanted steps : List ℕ}
   r = roundOf file
 
   abbrev seats : List Seat
-  seats = listOf r list
+  seats = listFor file list
 
   -- the step that the table has for a seat in the row is the one that is due
   pub step-due : (i : ℕ) → i < candidateCount r → inRow r seats i ≡ true → getD steps i 0 ≡ stepDue r seats i
@@ -79,11 +88,13 @@ module _ (file list : List ℕ) {asked wanted steps : List ℕ}
       rw (asked-some, step-due i l t, t))
       (λ f. rw (eq-eqb (getD asked i 0) 0 (no-offer file list read i f), f))
 
-  pub wrong-by : (i : ℕ) → i < candidateCount r → wrongBy list asked steps i ≡ wrong r seats i
+  wrong-by : (i : ℕ) → i < candidateCount r → wrongBy (formOf file) list asked steps i ≡ wrong r seats i
   unfolding wrongBy wrong
   wrong-by i l =
-      ap (λ (s : Seat). not (isNone s) && not (not (eqb (getD asked i 0) 0) && eqb (getD steps i 0) (s .step))) (sym (seat-at r list i l))
+      ap (λ (s : Seat). not (isNone s) && not (not (eqb (getD asked i 0) 0) && eqb (getD steps i 0) (s .step))) (sym (seat-at file list i l))
       ∙ ap (λ b. not (isNone (seatOn seats i)) && not b) (right-by i l)
 
-  pub first-wrong-by : first (candidateCount r) (wrongBy list asked steps) ≡ first (candidateCount r) (wrong r seats)
-  first-wrong-by = first-ext (candidateCount r) (wrongBy list asked steps) (wrong r seats) wrong-by
+  -- as the code has read the form
+  pub first-wrong-by : {form : Form} → formOf file ≡ form
+      → first (candidateCount r) (wrongBy form list asked steps) ≡ first (candidateCount r) (wrong r seats)
+  first-wrong-by e = rw (← e) (first-ext (candidateCount r) (wrongBy (formOf file) list asked steps) (wrong r seats) wrong-by)

@@ -1,5 +1,6 @@
 -- Laws of the two forms of a file, each by both.
 use Prim.Native.Nat.{ℕ, _+_, _*_, _<_, _≤_}
+use mathlib.Core.Path.{_≡_}
 use mathlib.Core.List.{List}
 use native.Mathlib.Omega.{arith}
 use lib.ListN.{length}
@@ -39,3 +40,10 @@ body-few {form} {body} y = entries-few form body (y .most)
 pub entry-inside : (form : Form) (body : List ℕ) (k : ℕ) → k < entryCount form body → 2 + entryWidth form * k + entryWidth form ≤ length body
 entry-inside Narrow body k l = omega arith
 entry-inside Wide body k l = omega arith
+
+-- the same, by the form that code has found
+pub narrow-inside : {form : Form} {body : List ℕ} {k : ℕ} → form ≡ Narrow → CandidateBody form body → k < entryCount form body → 2 * k + 4 ≤ length body
+narrow-inside {form} {body} {k} e y l = omega (arith, entry-inside Narrow body k (rw e at l))
+
+pub wide-inside : {form : Form} {body : List ℕ} {k : ℕ} → form ≡ Wide → CandidateBody form body → k < entryCount form body → 3 * k + 5 ≤ length body
+wide-inside {form} {body} {k} e y l = omega (arith, entry-inside Wide body k (rw e at l))

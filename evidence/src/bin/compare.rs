@@ -1,16 +1,19 @@
 //! Compares the unit with the second program, class by class.
 
 use evidence::classes::Run;
+use evidence::files::named;
 use evidence::lists::Listed;
 use evidence::plan;
 use evidence::program::Program;
 use evidence::tally::Tally;
-use evidence::{fenced, fenced_reviews};
-use std::path::PathBuf;
+use evidence::{fenced, fenced_reviews, widening};
+use second::form::Form;
+use std::path::{Path, PathBuf};
 use std::process::ExitCode;
 
 const USAGE: &str = "compare [--long] [--seed S] [--only NAMES] [--rounds DIR] [--keep DIR] [--program PATH]
---long runs 275,000 lawful rounds, 119,000 of them in other orders, 1,000,000 damaged files, and 250,000 reviews; --seed takes other
+--long runs 449,000 lawful rounds, 152,000 of them wide, and 166,000 in other orders, 1,500,000 damaged files, 500,000 of them wide,
+178,000 narrow rounds rewritten in the wide form, and over 500,000 reviews; --seed takes other
 made files; --only runs the classes whose names begin with one of these, parted by commas; --rounds is the folder of worked rounds;
 --keep is the folder that gets the first differing input of a class; --program is the unit's program, run on files and pipes.";
 
@@ -101,6 +104,50 @@ impl Book {
     }
 }
 
+/// The classes of allotment calls and verdicts on files of a form.
+fn calls(book: &mut Book, run: &Run, form: Form, rounds: &Path) {
+    let in_form = |name: &str| named(form, name);
+    book.class(&in_form("boundary"), || run.boundary(form));
+    let made = plan::lawful(form, run.long)
+        .into_iter()
+        .chain(plan::damaged(form, run.long));
+    for (made, count) in made {
+        book.class(&made.name(), || run.class(made, count));
+    }
+    if form == Form::Narrow {
+        book.class("orders, rounds", || run.rounds_in_order(rounds));
+    }
+    for (made, count) in plan::orders(form, run.long) {
+        let name = format!("orders, {}", made.name());
+        book.class(&name, || run.class_in_order(&name, made, count));
+    }
+    book.class(&in_form("a, one byte changed"), || run.changed(form));
+    book.class(&in_form("a, cut and extended"), || run.cut(form));
+    book.class(&in_form("a, every area length"), || run.every_length(form));
+    book.class(&in_form("area lengths"), || run.lengths(form, rounds));
+    book.class(&in_form("verdict"), || run.verdicts(form, rounds));
+}
+
+/// The classes of reviews for rounds of a form.
+fn reviews(book: &mut Book, run: &Run, form: Form, rounds: &Path) {
+    let in_form = |name: &str| named(form, name);
+    book.class(&in_form("review, every list"), || {
+        run.every_list(form, rounds)
+    });
+    for listed in Listed::all(form) {
+        let files = plan::lists(form, run.long);
+        book.class(&in_form(listed.name()), || run.lists(form, listed, &files));
+    }
+    let files = plan::mended(form, run.long);
+    book.class(&in_form("review, mended"), || run.mended(form, &files));
+    book.class(&in_form("review, damaged files"), || {
+        run.damaged_with_lists(form)
+    });
+    book.class(&in_form("review, lengths"), || {
+        run.list_lengths(form, rounds)
+    });
+}
+
 fn main() -> ExitCode {
     let Some(words) = words() else {
         eprintln!("{USAGE}");
@@ -131,22 +178,10 @@ fn main() -> ExitCode {
     );
     println!("{}", Tally::header());
     book.class("rounds", || run.rounds(&rounds));
-    book.class("boundary", || run.boundary());
-    let made = plan::lawful(run.long)
-        .into_iter()
-        .chain(plan::damaged(run.long));
-    for (made, count) in made {
-        book.class(&made.name(), || run.class(made, count));
+    for form in Form::BOTH {
+        calls(&mut book, &run, form, &rounds);
     }
-    book.class("orders, rounds", || run.rounds_in_order(&rounds));
-    for (made, count) in plan::orders(run.long) {
-        let name = format!("orders, {}", made.name());
-        book.class(&name, || run.class_in_order(&name, made, count));
-    }
-    book.class("a, one byte changed", || run.changed());
-    book.class("a, cut and extended", || run.cut());
-    book.class("area lengths", || run.lengths(&rounds));
-    book.class("verdict", || run.verdicts(&rounds));
+    book.class(widening::CALLS, || run.widened(&rounds));
     for (name, places, count) in plan::choices(run.long) {
         book.class(name, || run.choices(name, places, count));
     }
@@ -155,14 +190,10 @@ fn main() -> ExitCode {
     book.class("choose, types", || run.of_types(8_000 * times));
     book.class(fenced::NAME, || fenced::class(&run, &rounds));
     book.class("review, worked", || run.worked_lists(&rounds));
-    book.class("review, every list", || run.every_list(&rounds));
-    for listed in Listed::ALL {
-        let files = plan::lists(run.long);
-        book.class(listed.name(), || run.lists(listed, &files));
+    for form in Form::BOTH {
+        reviews(&mut book, &run, form, &rounds);
     }
-    book.class("review, mended", || run.mended(&plan::mended(run.long)));
-    book.class("review, damaged files", || run.damaged_with_lists());
-    book.class("review, lengths", || run.list_lengths(&rounds));
+    book.class(widening::REVIEWS, || run.widened_reviews(&rounds));
     book.class(fenced_reviews::NAME, || {
         fenced_reviews::class(&run, &rounds)
     });

@@ -1,14 +1,19 @@
 //! Writes generated round files: `generate CLASS SEED [COUNT] [--into DIR]`.
 
-use second::generate::{boundary, damaged, lawful, two_faults, Class, Damaged, Expected};
+use second::generate::{
+    boundary, damaged, lawful, two_faults, wide_boundary, wide_damaged, wide_two_faults, Class,
+    Damaged, Expected,
+};
 use std::io::{self, Write};
 use std::path::Path;
 use std::process::ExitCode;
 
 const USAGE: &str = "generate CLASS SEED [COUNT] [--into DIR]
-CLASS is tiny, small, mid, maximal, contested, crowded, refused-1 to refused-13, damaged (any of these), two-faults or boundary.
+CLASS is tiny, small, mid, maximal, contested, crowded, refused-1 to refused-13, damaged (any of these), two-faults or boundary;
+or, for wide rounds, wide-tiny, wide-small, wide-mid, wide-many, wide-state, wide-maximal, wide-contested, wide-refused-1 to
+wide-refused-13, wide-damaged, wide-two-faults or wide-boundary.
 Without --into, one file goes to standard output. With it, COUNT files for SEED and the seeds after it go to DIR,
-beside each refused one the line it is made for. The files of boundary are fixed: SEED is the number of the first, and all are COUNT.";
+beside each refused one the line it is made for. The files of both boundaries are fixed: SEED is the number of the first, and all are COUNT.";
 
 /// A file with its name and, where it is made for a refusal, that refusal.
 struct Made {
@@ -40,26 +45,54 @@ fn make(class: &str, seed: u64) -> Option<Made> {
             let number = (seed % 13) as u8 + 1;
             Some(from_damaged(class, seed, damaged(number, seed)))
         }
+        "wide-damaged" => {
+            let number = (seed % 13) as u8 + 1;
+            Some(from_damaged(class, seed, wide_damaged(number, seed)))
+        }
         "two-faults" => Some(from_damaged(class, seed, two_faults(seed))),
-        "boundary" => {
-            let (name, file, expected) = boundary().into_iter().nth(seed as usize)?;
-            let refusal = match expected {
-                Expected::Passes => None,
-                Expected::Refused { number, offset } => Some((number, offset)),
-            };
-            Some(Made {
-                name: format!("boundary-{name}"),
-                file,
-                refusal,
-            })
-        }
-        _ => {
-            let number = class.strip_prefix("refused-")?.parse().ok()?;
-            (1..=13)
-                .contains(&number)
-                .then(|| from_damaged(class, seed, damaged(number, seed)))
-        }
+        "wide-two-faults" => Some(from_damaged(class, seed, wide_two_faults(seed))),
+        _ => match fixed(class) {
+            Some(files) => Some(from_fixed(class, files.into_iter().nth(seed as usize)?)),
+            None => refused(class, seed),
+        },
     }
+}
+
+/// A file with its name and what it is expected to give.
+type Fixed = (String, Vec<u8>, Expected);
+
+/// The files of a class that are fixed.
+fn fixed(class: &str) -> Option<Vec<Fixed>> {
+    match class {
+        "boundary" => Some(boundary()),
+        "wide-boundary" => Some(wide_boundary()),
+        _ => None,
+    }
+}
+
+/// The fixed file as a made one.
+fn from_fixed(class: &str, (name, file, expected): Fixed) -> Made {
+    let refusal = match expected {
+        Expected::Passes => None,
+        Expected::Refused { number, offset } => Some((number, offset)),
+    };
+    Made {
+        name: format!("{class}-{name}"),
+        file,
+        refusal,
+    }
+}
+
+/// The file of a class that is named by the question it is made for.
+fn refused(class: &str, seed: u64) -> Option<Made> {
+    let (damaged, number): (fn(u8, u64) -> Damaged, &str) = match class.strip_prefix("wide-") {
+        Some(narrow) => (wide_damaged, narrow.strip_prefix("refused-")?),
+        None => (damaged, class.strip_prefix("refused-")?),
+    };
+    let number = number.parse().ok()?;
+    (1..=13)
+        .contains(&number)
+        .then(|| from_damaged(class, seed, damaged(number, seed)))
 }
 
 /// Writes a made file, and the refusal it is made for, to a folder, which is made where it is missing.
@@ -89,8 +122,10 @@ fn run(mut words: Vec<String>) -> io::Result<bool> {
         return Ok(false);
     };
     let count = match words.get(2).map(|word| word.parse::<u64>()) {
-        None if class == "boundary" && into.is_some() => boundary().len() as u64 - seed,
-        None => 1,
+        None => match fixed(class) {
+            Some(files) if into.is_some() => files.len() as u64 - seed,
+            _ => 1,
+        },
         Some(Ok(count)) => count,
         Some(Err(_)) => return Ok(false),
     };

@@ -1,6 +1,7 @@
 //! Files at the edge of each question, with what they are expected to give.
 
 use super::lawful::{lawful, lawful_round, Class};
+use crate::form::Form;
 use crate::reading::{Candidate, Entry, Institute, Round, LONGEST, OPEN};
 use crate::writing::{records, write};
 
@@ -14,18 +15,18 @@ pub enum Expected {
 use Expected::Passes;
 
 /// The refusal with this number at this byte.
-fn refused(number: u8, offset: usize) -> Expected {
+pub(super) fn refused(number: u8, offset: usize) -> Expected {
     Expected::Refused { number, offset }
 }
 
 /// The bytes of file A.
-const A: &[u8] = include_bytes!("../../../rounds/a.round");
+pub(super) const A: &[u8] = include_bytes!("../../../rounds/a.round");
 
 /// The offsets of file A's records.
 const A_RECORDS: [usize; 6] = [0, 12, 36, 44, 54, 62];
 
 /// One candidate listing open, of code 0 and without marks.
-fn plain_candidate() -> Candidate {
+pub(super) fn plain_candidate() -> Candidate {
     Candidate {
         code: OPEN,
         marks: 0,
@@ -37,8 +38,9 @@ fn plain_candidate() -> Candidate {
 }
 
 /// One candidate, one institute with one open position, no policy; the head takes 12 bytes, the institute's record 14 and 10 for each type.
-fn plain_round(types: usize) -> Round {
+pub(super) fn plain_round(types: usize) -> Round {
     Round {
+        form: Form::Narrow,
         types,
         policy: 0,
         institutes: vec![Institute {

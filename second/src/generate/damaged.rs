@@ -1,8 +1,9 @@
 //! Damaged files: each is a lawful file changed so that a known question is the first answered no.
 
 use super::lawful::{lawful_round, Class};
+use crate::form::Form;
 use crate::random::Random;
-use crate::reading::{Candidate, Entry, Round, OPEN};
+use crate::reading::{Candidate, Entry, Round, MOST_CANDIDATES, OPEN};
 use crate::writing::records;
 
 /// A damaged file with the refusal it was made for.
@@ -14,9 +15,13 @@ pub struct Damaged {
 }
 
 /// A round with something to damage in each record: 1 to 7 types, rows of at least two entries, whole merit lists of at least two candidates.
-fn base(random: &mut Random) -> Round {
+fn base(random: &mut Random, form: Form) -> Round {
     loop {
-        let mut round = lawful_round(Class::Small, random.bits());
+        let class = match form {
+            Form::Narrow => Class::Small,
+            Form::Wide => random.pick(&[Class::WideSmall, Class::WideSmall, Class::WideMany]),
+        };
+        let mut round = lawful_round(class, random.bits());
         let n = round.candidates.len();
         if n < 2 || !(1..=7).contains(&round.types) {
             continue;
@@ -49,9 +54,9 @@ fn lengthen(candidate: &mut Candidate) {
 fn kind_at(round: &Round, place: usize) -> usize {
     let m = round.institutes.len();
     match place {
-        0 => 1,
+        0 => round.form.head(),
         _ if place <= m => 2,
-        _ if place <= m + round.candidates.len() => 3,
+        _ if place <= m + round.candidates.len() => round.form.candidate(),
         _ => 4,
     }
 }
@@ -67,11 +72,11 @@ fn get(bytes: &[u8], at: usize) -> usize {
 }
 
 /// The kind of record that a question is put to, where it is only one kind.
-fn kind_asked(number: u8) -> Option<usize> {
+fn kind_asked(form: Form, number: u8) -> Option<usize> {
     match number {
-        5 => Some(1),
+        5 => Some(form.head()),
         6 | 7 => Some(2),
-        8..=10 => Some(3),
+        8..=10 => Some(form.candidate()),
         11 | 12 => Some(4),
         _ => None,
     }
@@ -83,16 +88,20 @@ fn damage(random: &mut Random, round: &Round, record: &mut [u8], number: u8) {
     let m = round.institutes.len();
     let types = round.types;
     match number {
-        2 => damage_kind(random, record),
+        2 => damage_kind(random, round.form, record),
         3 => damage_length(random, n, record),
         5 => {
+            let [more, many] = match round.form {
+                Form::Narrow => [33, 256],
+                Form::Wide => [1001, 1256],
+            };
             let (field, value) = random.pick(&[
                 (0, 0),
                 (0, 513),
                 (0, 65_535),
                 (1, 0),
-                (1, 33),
-                (1, 256),
+                (1, more),
+                (1, many),
                 (2, 9),
                 (2, 65_535),
                 (3, 2),
@@ -133,13 +142,14 @@ fn damage(random: &mut Random, round: &Round, record: &mut [u8], number: u8) {
             }
         }
         9 => {
-            let entry = 6 + 2 * random.from_to(0, (record.len() - 6) / 2 - 1);
+            let width = round.form.entry_bytes();
+            let entry = 6 + width * random.from_to(0, (record.len() - 6) / width - 1);
             match random.from_to(1, 3) {
-                1 => record[entry] = 0,
-                2 => record[entry] = random.from_to(m + 1, 255) as u8,
+                1 => record[entry..entry + width - 1].fill(0),
+                2 => damage_institute(random, round.form, m, &mut record[entry..]),
                 _ => {
                     let wrong: Vec<u8> = (1..=255).filter(|&code| code != record[4]).collect();
-                    record[entry + 1] = if random.one_in(2) {
+                    record[entry + width - 1] = if random.one_in(2) {
                         wrong[random.from_to(0, 3)]
                     } else {
                         random.pick(&wrong)
@@ -147,21 +157,38 @@ fn damage(random: &mut Random, round: &Round, record: &mut [u8], number: u8) {
                 }
             }
         }
-        10 => copy_pair(random, record, 6),
+        10 => copy_part(random, record, 6, round.form.entry_bytes()),
         11 => {
             let at = 4 + 2 * random.from_to(0, (record.len() - 4) / 2 - 1);
             let value = random.pick(&[0, n + 1, 65_535]);
             put(record, at, value);
         }
-        12 => copy_pair(random, record, 4),
+        12 => copy_part(random, record, 4, 2),
         _ => unreachable!("this question is not about what one record holds"),
     }
 }
 
+/// Makes the institute at the start of an entry one of too large a number, in the wide form also one whose low byte stays.
+fn damage_institute(random: &mut Random, form: Form, m: usize, entry: &mut [u8]) {
+    match form {
+        Form::Narrow => entry[0] = random.from_to(m + 1, 255) as u8,
+        Form::Wide if random.one_in(2) => put(entry, 0, random.from_to(m + 1, 65_535)),
+        Form::Wide => {
+            let (low, high) = (usize::from(entry[0]), m / 256 + 1);
+            put(entry, 0, low + 256 * random.from_to(high, 255));
+        }
+    }
+}
+
 /// Makes the kind another one.
-fn damage_kind(random: &mut Random, record: &mut [u8]) {
+fn damage_kind(random: &mut Random, form: Form, record: &mut [u8]) {
     let due = get(record, 2);
-    let others: Vec<usize> = [0, 1, 2, 3, 4, 5, due + 256, 65_535]
+    let all: &[usize] = match form {
+        Form::Narrow => &[0, 1, 2, 3, 4, 5],
+        Form::Wide => &[0, 1, 2, 3, 4, 5, 6, 7],
+    };
+    let others: Vec<usize> = [all, &[due + 256, 65_535]]
+        .concat()
         .into_iter()
         .filter(|&kind| kind != due)
         .collect();
@@ -174,6 +201,7 @@ fn damage_length(random: &mut Random, n: usize, record: &mut [u8]) {
     let due = get(record, 0);
     let lengths = match get(record, 2) {
         3 => vec![0, 1, 3, 33, 35, 36, due + 1, 65_535],
+        6 => vec![0, 1, 3, 4, 6, 7, 49, 51, 52, 53, due + 1, due + 2, 65_535],
         4 => vec![1, due + 1, 2 * n + 1, 2 * n + 2, 65_535],
         _ => vec![0, due - 2, due - 1, due + 1, due + 2, 65_535],
     };
@@ -181,14 +209,13 @@ fn damage_length(random: &mut Random, n: usize, record: &mut [u8]) {
     put(record, 0, length);
 }
 
-/// Copies one pair of bytes over another one of the list that begins at a place.
-fn copy_pair(random: &mut Random, record: &mut [u8], start: usize) {
-    let count = (record.len() - start) / 2;
+/// Copies one part over another one of the list of parts of this width that begins at a place.
+fn copy_part(random: &mut Random, record: &mut [u8], start: usize, width: usize) {
+    let count = (record.len() - start) / width;
     let from = random.from_to(0, count - 1);
     let to = (from + random.from_to(1, count - 1)) % count;
-    let (first, second) = (record[start + 2 * from], record[start + 2 * from + 1]);
-    record[start + 2 * to] = first;
-    record[start + 2 * to + 1] = second;
+    let part = start + width * from..start + width * (from + 1);
+    record.copy_within(part, start + width * to);
 }
 
 /// The offset of the record at a place of the file order.
@@ -200,17 +227,55 @@ fn offset_of(records: &[Vec<u8>], place: usize) -> usize {
 fn some_place(random: &mut Random, round: &Round, records: &[Vec<u8>], number: u8) -> usize {
     loop {
         let place = random.from_to(0, records.len() - 1);
-        let asked = kind_asked(number);
+        let asked = kind_asked(round.form, number);
         if asked.is_none() || asked == Some(kind_at(round, place)) {
             return place;
         }
     }
 }
 
+/// The refusal of a file whose damaged records have these faults, each a place and a number, the first one first.
+fn due(round: &Round, records: &[Vec<u8>], faults: &[(usize, u8)]) -> (u8, usize) {
+    let told = Form::told(get(&records[0], 2)).filter(|&told| told != round.form);
+    let (place, number) = match told {
+        Some(told) => due_under(told, round, &records[0], faults),
+        None => faults[0],
+    };
+    (number, offset_of(records, place))
+}
+
+/// The place and number of the refusal where the head tells the other form: a fault of the head or of an institute decides, else the first candidate's record has not the kind due.
+fn due_under(told: Form, round: &Round, head: &[u8], faults: &[(usize, u8)]) -> (usize, u8) {
+    if faults.contains(&(0, 3)) {
+        return (0, 3);
+    }
+    let [n, m, types, policy] = [4, 6, 8, 10].map(|at| get(head, at));
+    let in_range = (1..=MOST_CANDIDATES).contains(&n)
+        && (1..=told.most_institutes()).contains(&m)
+        && types <= 8
+        && policy <= 1;
+    if !in_range {
+        return (0, 5);
+    }
+    let institutes = 1..=round.institutes.len();
+    let first = faults.iter().find(|fault| institutes.contains(&fault.0));
+    *first.unwrap_or(&(round.institutes.len() + 1, 2))
+}
+
 /// A file whose first question answered no is the one with this number, from 1 to 13.
 pub fn damaged(number: u8, seed: u64) -> Damaged {
+    damaged_in(Form::Narrow, number, seed)
+}
+
+/// A wide file whose first question answered no is the one with this number, from 1 to 13; a head that tells the narrow form may make it question 5 for 2.
+pub fn wide_damaged(number: u8, seed: u64) -> Damaged {
+    damaged_in(Form::Wide, number, seed)
+}
+
+/// A file of a form, damaged for a question.
+fn damaged_in(form: Form, number: u8, seed: u64) -> Damaged {
     let mut random = Random::new(seed);
-    let round = base(&mut random);
+    let round = base(&mut random, form);
     let mut records = records(&round);
     let place = some_place(&mut random, &round, &records, number);
     let offset = offset_of(&records, place);
@@ -242,6 +307,7 @@ pub fn damaged(number: u8, seed: u64) -> Damaged {
         }
         _ => {
             damage(&mut random, &round, &mut records[place], number);
+            let (number, offset) = due(&round, &records, &[(place, number)]);
             Damaged {
                 file: records.concat(),
                 number,
@@ -253,35 +319,58 @@ pub fn damaged(number: u8, seed: u64) -> Damaged {
 
 /// A file with two faults, in one record or in two; the first decides.
 pub fn two_faults(seed: u64) -> Damaged {
+    two_faults_in(Form::Narrow, seed)
+}
+
+/// A wide file with two faults, in one record or in two; the first decides.
+pub fn wide_two_faults(seed: u64) -> Damaged {
+    two_faults_in(Form::Wide, seed)
+}
+
+/// A file of a form with two faults that do not fit together to another form.
+fn two_faults_in(form: Form, seed: u64) -> Damaged {
     let mut random = Random::new(seed);
-    let round = base(&mut random);
-    let mut records = records(&round);
+    loop {
+        let round = base(&mut random, form);
+        let (records, faults) = with_two_faults(&mut random, &round);
+        let first = round.institutes.len() + 1;
+        let told = Form::told(get(&records[0], 2));
+        if told.is_some_and(|told| told != form && get(&records[first], 2) == told.candidate()) {
+            continue;
+        }
+        let (number, offset) = due(&round, &records, &faults);
+        return Damaged {
+            file: records.concat(),
+            number,
+            offset,
+        };
+    }
+}
+
+/// The records of a round with two faults, and these, each a place and a number, the first one first.
+fn with_two_faults(random: &mut Random, round: &Round) -> (Vec<Vec<u8>>, [(usize, u8); 2]) {
+    let mut records = records(round);
     let numbers = [2, 3, 5, 6, 7, 8, 9, 10, 11, 12];
     let first = random.pick(&numbers);
-    let place = some_place(&mut random, &round, &records, first);
+    let place = some_place(random, round, &records, first);
     let (second, other) = loop {
         let second = random.pick(&numbers);
         let other = if random.one_in(2) {
             place
         } else {
-            some_place(&mut random, &round, &records, second)
+            some_place(random, round, &records, second)
         };
-        let asked = kind_asked(second);
-        let fits = asked.is_none() || asked == Some(kind_at(&round, other));
+        let asked = kind_asked(round.form, second);
+        let fits = asked.is_none() || asked == Some(kind_at(round, other));
         if fits && (second, other) != (first, place) {
             break (second, other);
         }
     };
     let mut faults = [(place, first), (other, second)];
     faults.sort();
-    let offset = offset_of(&records, faults[0].0);
     // The later fault is made first, so that the earlier one is there in the end.
     for (at, number) in [faults[1], faults[0]] {
-        damage(&mut random, &round, &mut records[at], number);
+        damage(random, round, &mut records[at], number);
     }
-    Damaged {
-        file: records.concat(),
-        number: faults[0].1,
-        offset,
-    }
+    (records, faults)
 }

@@ -1,5 +1,6 @@
 //! Lawful rounds of several sizes.
 
+use crate::form::Form;
 use crate::random::Random;
 use crate::reading::{Candidate, Entry, Institute, Round, OPEN};
 use crate::writing::write;
@@ -19,18 +20,44 @@ pub enum Class {
     Contested,
     /// 512 candidates at 1 or 2 institutes with hundreds of positions, most of them reserved for 8 types.
     Crowded,
+    /// Wide, 2 to 5 candidates and 1 to 40 institutes, 3 of them named in the rows.
+    WideTiny,
+    /// Wide, up to 24 candidates and 60 institutes, 6 of them named in the rows.
+    WideSmall,
+    /// Wide, 60 to 200 candidates and 33 to 60 institutes.
+    WideMid,
+    /// Wide, 2 to 8 candidates and 257 to 1,000 institutes, 4 of them named in the rows; no file above 65,536 bytes.
+    WideMany,
+    /// Wide, 60 to 200 candidates and 257 to 1,000 institutes, 24 of them named in the rows.
+    WideState,
+    /// Wide, 512 candidates, 1,000 institutes, 64 of them named in the rows, 16 entries, 8 types, whole merit lists: the longest files.
+    WideMaximal,
+    /// As wide and maximal, with like rows of 32 institutes and merit against the order of going.
+    WideContested,
 }
 
 impl Class {
     /// All classes.
-    pub const ALL: [Class; 6] = [
+    pub const ALL: [Class; 13] = [
         Class::Tiny,
         Class::Small,
         Class::Mid,
         Class::Maximal,
         Class::Contested,
         Class::Crowded,
+        Class::WideTiny,
+        Class::WideSmall,
+        Class::WideMid,
+        Class::WideMany,
+        Class::WideState,
+        Class::WideMaximal,
+        Class::WideContested,
     ];
+
+    /// The form of the rounds of the class.
+    pub fn form(self) -> Form {
+        shape(self).form
+    }
 
     /// The name of the class.
     pub fn name(self) -> &'static str {
@@ -41,6 +68,13 @@ impl Class {
             Class::Maximal => "maximal",
             Class::Contested => "contested",
             Class::Crowded => "crowded",
+            Class::WideTiny => "wide-tiny",
+            Class::WideSmall => "wide-small",
+            Class::WideMid => "wide-mid",
+            Class::WideMany => "wide-many",
+            Class::WideState => "wide-state",
+            Class::WideMaximal => "wide-maximal",
+            Class::WideContested => "wide-contested",
         }
     }
 }
@@ -50,11 +84,14 @@ type Span = (usize, usize);
 
 /// What a class fixes about its rounds.
 struct Shape {
+    form: Form,
     candidates: Span,
     institutes: Span,
     types: Span,
     /// Positions of one category at one institute.
     positions: Span,
+    /// How many institutes the rows of a round name, where there are as many; 0 for all.
+    named: usize,
     /// Entries of a row, where as many different ones are lawful.
     entries: Span,
     /// One in so many candidates is absent from a merit list; 0 for none.
@@ -67,58 +104,117 @@ struct Shape {
 fn shape(class: Class) -> Shape {
     match class {
         Class::Tiny => Shape {
+            form: Form::Narrow,
             candidates: (2, 5),
             institutes: (1, 3),
             types: (0, 3),
             positions: (0, 2),
+            named: 0,
             entries: (0, 6),
             absent: 10,
             against: false,
         },
         Class::Small => Shape {
+            form: Form::Narrow,
             candidates: (1, 24),
             institutes: (1, 6),
             types: (0, 8),
             positions: (0, 3),
+            named: 0,
             entries: (0, 12),
             absent: 8,
             against: false,
         },
         Class::Mid => Shape {
+            form: Form::Narrow,
             candidates: (60, 200),
             institutes: (6, 16),
             types: (0, 8),
             positions: (0, 6),
+            named: 0,
             entries: (2, 16),
             absent: 12,
             against: false,
         },
         Class::Maximal => Shape {
+            form: Form::Narrow,
             candidates: (512, 512),
             institutes: (32, 32),
             types: (8, 8),
             positions: (0, 6),
+            named: 0,
             entries: (16, 16),
             absent: 0,
             against: false,
         },
         Class::Contested => Shape {
+            form: Form::Narrow,
             candidates: (512, 512),
             institutes: (32, 32),
             types: (8, 8),
             positions: (1, 2),
+            named: 0,
             entries: (16, 16),
             absent: 0,
             against: true,
         },
         Class::Crowded => Shape {
+            form: Form::Narrow,
             candidates: (512, 512),
             institutes: (1, 2),
             types: (8, 8),
             positions: (20, 200),
+            named: 0,
             entries: (1, 4),
             absent: 50,
             against: false,
+        },
+        Class::WideTiny => Shape {
+            form: Form::Wide,
+            institutes: (1, 40),
+            named: 3,
+            ..shape(Class::Tiny)
+        },
+        Class::WideSmall => Shape {
+            form: Form::Wide,
+            institutes: (1, 60),
+            named: 6,
+            ..shape(Class::Small)
+        },
+        Class::WideMid => Shape {
+            form: Form::Wide,
+            institutes: (33, 60),
+            positions: (0, 1),
+            ..shape(Class::Mid)
+        },
+        Class::WideMany => Shape {
+            form: Form::Wide,
+            candidates: (2, 8),
+            institutes: (257, 1000),
+            types: (0, 2),
+            positions: (0, 1),
+            named: 4,
+            ..shape(Class::Small)
+        },
+        Class::WideState => Shape {
+            form: Form::Wide,
+            institutes: (257, 1000),
+            positions: (0, 2),
+            named: 24,
+            ..shape(Class::Mid)
+        },
+        Class::WideMaximal => Shape {
+            form: Form::Wide,
+            institutes: (1000, 1000),
+            positions: (0, 2),
+            named: 64,
+            ..shape(Class::Maximal)
+        },
+        Class::WideContested => Shape {
+            form: Form::Wide,
+            institutes: (1000, 1000),
+            named: 32,
+            ..shape(Class::Contested)
         },
     }
 }
@@ -138,17 +234,38 @@ pub fn lawful_round(class: Class, seed: u64) -> Round {
     let types = span(shape.types);
     let policy = span((0, 1)) as u16;
     let thin = span((0, 3));
+    let named = match shape.named {
+        0 => (0..m).collect(),
+        count => some_named(&mut random, m, count),
+    };
     Round {
+        form: shape.form,
         types,
         policy,
         institutes: (0..m)
             .map(|_| some_institute(&mut random, types, &shape))
             .collect(),
         candidates: (0..n)
-            .map(|_| some_candidate(&mut random, m, types, thin, &shape))
+            .map(|_| some_candidate(&mut random, &named, types, thin, &shape))
             .collect(),
         merit: (0..m).map(|_| some_merit(&mut random, n, &shape)).collect(),
     }
+}
+
+/// So many institutes of m, where there are as many: each drawn one is followed by the one 256 numbers on or back, where there is one.
+fn some_named(random: &mut Random, m: usize, count: usize) -> Vec<usize> {
+    let mut named: Vec<usize> = Vec::new();
+    while named.len() < count.min(m) {
+        let drawn = random.from_to(0, m - 1);
+        let like = [drawn, drawn + 256, drawn.wrapping_sub(256)];
+        for institute in like.into_iter().filter(|&one| one < m) {
+            if !named.contains(&institute) {
+                named.push(institute);
+            }
+        }
+    }
+    named.truncate(count);
+    named
 }
 
 /// An institute with positions in the span, a random part of them reserved.
@@ -174,10 +291,10 @@ fn some_institute(random: &mut Random, types: usize, shape: &Shape) -> Institute
     institute
 }
 
-/// A candidate, OBC more often than another category, with fewer marks the thinner they are, and with a row that may list open and own category of one institute.
+/// A candidate, OBC more often than another category, with fewer marks the thinner they are, and with a row of these institutes that may list open and own category of one.
 fn some_candidate(
     random: &mut Random,
-    m: usize,
+    named: &[usize],
     types: usize,
     thin: usize,
     shape: &Shape,
@@ -188,7 +305,7 @@ fn some_candidate(
         marks &= random.bits() as u8;
     }
     let mut entries: Vec<Entry> = Vec::new();
-    for institute in 0..m {
+    for &institute in named {
         for category in if code == OPEN {
             vec![OPEN]
         } else {

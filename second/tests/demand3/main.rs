@@ -1,6 +1,8 @@
 //! Demand 3 run over thousands of tiny rounds, and the wrong rules it turns back.
 
 mod arrangements;
+#[path = "../wide/spread.rs"]
+mod spread;
 mod stability;
 mod statements;
 mod tiny;
@@ -12,8 +14,10 @@ use second::generate::{lawful_round, Class};
 use second::offers::{allot, Process, Seat};
 use second::random::Random;
 use second::reading::{read, Round};
+use second::widening::wide;
 use second::writing::write;
-use second::{call_on, Outcome};
+use second::{call_on, Form, Outcome};
+use spread::{gathered, spread};
 use stability::subset;
 use statements::{
     any_order, choice_is_one, completion_agrees_in_the_run, completion_is_one,
@@ -30,6 +34,12 @@ use wrong::{
 /// How many rounds each statement is run over.
 const ROUNDS: u64 = 5000;
 
+/// How many rounds of the wide form statements 1 and 2 are run over.
+const WIDE_ROUNDS: u64 = 500;
+
+/// How many rounds with institutes far apart statements 1 and 2 are run over.
+const FAR_ROUNDS: u64 = 100;
+
 /// How many rounds a wrong rule has to pass before it counts as not turned back.
 const WRONG_ROUNDS: u64 = 1500;
 
@@ -40,21 +50,35 @@ fn list_of_call(round: &Round, random: &mut Random) -> Vec<Option<Seat>> {
         let length = least + random.from_to(0, 4);
         (0..length).map(|_| random.bits() as u8).collect()
     };
-    let mut answer = area(3 * n + 12 * round.institutes.len());
+    let width = match round.form {
+        Form::Narrow => 2,
+        Form::Wide => 4,
+    };
+    let mut answer = area((width + 1) * n + 12 * round.institutes.len());
     let mut work = area(8 * n);
     let outcome = call_on(&write(round), &mut answer, &mut work);
     assert!(matches!(outcome, Outcome::Allotted { .. }));
-    (0..n)
-        .map(
-            |candidate| match (answer[2 * candidate], answer[2 * candidate + 1]) {
-                (0, 0) => None,
-                (institute, step) => Some(Seat {
-                    institute: usize::from(institute) - 1,
-                    step,
-                }),
-            },
-        )
+    answer[..width * n]
+        .chunks_exact(width)
+        .map(|bytes| {
+            let (institute, step) = match *bytes {
+                [institute, step] => (usize::from(institute), step),
+                [low, high, step, 0] => (usize::from(u16::from_le_bytes([low, high])), step),
+                _ => panic!("{bytes:?}"),
+            };
+            (institute != 0 || step != 0).then(|| Seat {
+                institute: institute - 1,
+                step,
+            })
+        })
         .collect()
+}
+
+/// The list of a call on the round with its institutes put far apart, in the wide form.
+fn list_of_far_call(round: &Round, random: &mut Random) -> Vec<Option<Seat>> {
+    let seats = list_of_call(&spread(round), random);
+    let gather = |seat: Option<Seat>| seat.map(|seat| gathered(round, seat));
+    seats.into_iter().map(gather).collect()
 }
 
 /// Asserts a statement of every round.
@@ -81,6 +105,32 @@ fn statement_1_truthful() {
 #[test]
 fn statement_2_stable() {
     holds_always(|round, random| stable(round, &Document, &list_of_call(round, random)));
+}
+
+#[test]
+fn statements_1_and_2_hold_of_wide_rounds() {
+    for seed in 0..WIDE_ROUNDS {
+        let round = wide(&tiny(seed));
+        let random = &mut Random::new(!seed);
+        let areas = RefCell::new(Random::new(random.bits()));
+        let list = |other: &Round| list_of_call(other, &mut areas.borrow_mut());
+        let found =
+            truthful(&round, &list, random).and_then(|()| stable(&round, &Document, &list(&round)));
+        assert_eq!(found, Ok(()), "seed {seed}");
+    }
+}
+
+#[test]
+fn statements_1_and_2_hold_of_institutes_far_apart() {
+    for seed in 0..FAR_ROUNDS {
+        let round = tiny(seed);
+        let random = &mut Random::new(!seed);
+        let areas = RefCell::new(Random::new(random.bits()));
+        let list = |other: &Round| list_of_far_call(other, &mut areas.borrow_mut());
+        let found =
+            truthful(&round, &list, random).and_then(|()| stable(&round, &Document, &list(&round)));
+        assert_eq!(found, Ok(()), "seed {seed}");
+    }
 }
 
 #[test]

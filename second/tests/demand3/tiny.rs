@@ -1,5 +1,6 @@
 //! Tiny contested rounds: 2 to 5 candidates, 1 to 3 institutes, 0 to 3 types, few positions.
 
+use second::form::Form;
 use second::random::Random;
 use second::reading::{Candidate, Entry, Institute, Round, OPEN};
 
@@ -57,6 +58,7 @@ fn brought_back() -> Round {
         row: lawful_entries(OPEN, entries),
     };
     Round {
+        form: Form::Narrow,
         types: 2,
         policy: 0,
         institutes: vec![institute(2, 1), institute(1, 0)],
@@ -104,6 +106,7 @@ fn all_open(random: &mut Random) -> Round {
         })
         .collect();
     Round {
+        form: Form::Narrow,
         types: 2,
         policy: 0,
         institutes,
@@ -140,6 +143,7 @@ fn of_several_categories(random: &mut Random) -> Round {
         })
         .collect();
     Round {
+        form: Form::Narrow,
         types,
         policy,
         institutes,

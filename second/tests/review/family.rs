@@ -2,6 +2,7 @@
 
 use crate::arrangements::arrangements;
 use crate::tiny::lawful_entries;
+use second::form::Form;
 use second::reading::{Candidate, Institute, Round, OBC, OPEN};
 use std::slice::from_ref;
 
@@ -61,6 +62,7 @@ pub fn every_round(people: usize, types: usize) -> Vec<Round> {
         for merit in arrangements(&numbers) {
             for institute in institutes(types) {
                 rounds.extend([0, 1].map(|policy| Round {
+                    form: Form::Narrow,
                     types,
                     policy,
                     institutes: vec![institute.clone()],

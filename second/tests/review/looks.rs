@@ -1,6 +1,7 @@
 //! A review of the tests' own, which goes over a list in one of several ways.
 
 use second::choice::{Offer, Rule};
+use second::form::Form;
 use second::reading::{Entry, Round};
 use second::Review;
 
@@ -53,18 +54,24 @@ pub struct Over<'a, R: Rule> {
 }
 
 impl<R: Rule> Over<'_, R> {
-    /// The two bytes of a candidate.
-    fn pair(&self, who: usize) -> (u8, u8) {
-        (self.list[2 * who], self.list[2 * who + 1])
+    /// The institute and the step that the list has for a candidate, and the byte behind them, 0 in the narrow form.
+    fn bytes(&self, who: usize) -> (u16, u8, u8) {
+        match (self.round.form, self.list) {
+            (Form::Narrow, list) => (u16::from(list[2 * who]), list[2 * who + 1], 0),
+            (Form::Wide, list) => {
+                let own = &list[4 * who..4 * who + 4];
+                (u16::from_le_bytes([own[0], own[1]]), own[2], own[3])
+            }
+        }
     }
 
     /// The entry that the bytes of a candidate stand for, in the row or not.
     fn entry(&self, who: usize) -> Option<Entry> {
-        let (institute, step) = self.pair(who);
+        let (institute, step, behind) = self.bytes(who);
         let category = *CATEGORIES.get(usize::from(step).checked_sub(1)?)?;
         let institute = usize::from(institute).checked_sub(1)?;
         let none_at_6 = self.look == Look::NoStep6 && self.round.policy == 0 && step == 6;
-        let there = institute < self.round.institutes.len() && !none_at_6;
+        let there = institute < self.round.institutes.len() && behind == 0 && !none_at_6;
         there.then_some(Entry {
             institute,
             category,
@@ -76,7 +83,7 @@ impl<R: Rule> Over<'_, R> {
         match self.look {
             Look::ReadAsNone => self.entry(who).is_none(),
             Look::NoneAtFault => false,
-            _ => self.pair(who) == (0, 0),
+            _ => self.bytes(who) == (0, 0, 0),
         }
     }
 
@@ -114,7 +121,7 @@ impl<R: Rule> Over<'_, R> {
         let own = taken.iter().find(|one| one.offer.candidate == who);
         match self.look {
             Look::NoSteps => own.is_none(),
-            _ => own.map(|one| one.step) != Some(self.pair(who).1),
+            _ => own.map(|one| one.step) != Some(self.bytes(who).1),
         }
     }
 

@@ -31,7 +31,7 @@ use second::generate::{lawful_round, Class};
 use second::offers::{allot, Seat};
 use second::printing::print_review;
 use second::random::Random;
-use second::reading::Round;
+use second::reading::{read, Round};
 use second::review::found;
 use second::Review;
 use several::several;
@@ -51,7 +51,7 @@ const LISTS: usize = 20_000;
 
 /// The list of a round's allotment.
 fn own_list(round: &Round) -> Vec<u8> {
-    let mut answer = answer_of(&allot(round, &Document));
+    let mut answer = answer_of(round, &allot(round, &Document));
     answer.truncate(2 * round.candidates.len());
     answer
 }
@@ -272,7 +272,7 @@ fn changed_lists_of_larger_rounds_are_answered_as_the_tests_own_review_does() {
 #[test]
 fn worked_lists_are_answered_as_expected() {
     let cases = cases();
-    assert_eq!(cases.len(), 18);
+    assert_eq!(cases.len(), 26);
     for case in cases {
         let line = print_review(&case.file, &case.list);
         assert_eq!(line, case.expected, "{}", case.name);
@@ -298,8 +298,14 @@ fn each_readable_form_agrees_with_its_list() {
             .collect();
         assert_eq!(bytes, case.list, "{}", case.name);
         let lines: Vec<&str> = case.hex.lines().collect();
-        let whole = lines.iter().take(case.list.len() / 2);
-        assert!(whole.clone().all(|line| line.len() == 5), "{}", case.name);
-        assert_eq!(lines.len(), case.list.len().div_ceil(2), "{}", case.name);
+        let width = read(&case.file).map_or(2, |round| round.form.seat_bytes());
+        let mut whole = lines.iter().take(case.list.len() / width);
+        assert!(
+            whole.all(|line| line.len() == 3 * width - 1),
+            "{}",
+            case.name
+        );
+        let due = case.list.len().div_ceil(width);
+        assert_eq!(lines.len(), due, "{}", case.name);
     }
 }

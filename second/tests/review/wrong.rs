@@ -92,6 +92,10 @@ fn passing_every_list_is_caught() {
             "step-0",
             "step-6-policy-0",
             "step-7",
+            "wide-300-would-take",
+            "wide-44-for-300",
+            "wide-last-byte-1",
+            "wide-none-last-byte-1",
         ],
     );
 }
@@ -127,13 +131,19 @@ fn naming_the_last_candidate_is_caught() {
             "nobody",
             "own-seat-beside",
             "step-6-policy-0",
+            "wide-300-would-take",
         ],
     );
 }
 
 #[test]
 fn adding_all_entries_at_once_is_caught() {
-    caught(Look::AllAtOnce, 55, 0, &["one-at-a-time"]);
+    caught(
+        Look::AllAtOnce,
+        55,
+        0,
+        &["one-at-a-time", "wide-300-would-take"],
+    );
 }
 
 #[test]
@@ -143,17 +153,32 @@ fn reading_step_6_under_policy_0_as_not_in_the_row_is_caught() {
 
 #[test]
 fn asking_whether_the_candidate_is_taken_at_all_is_caught() {
-    caught(Look::TakenAtAll, 119, 67, &["another-that-passes", "own"]);
+    caught(
+        Look::TakenAtAll,
+        119,
+        67,
+        &["another-that-passes", "own", "wide-own"],
+    );
 }
 
 #[test]
 fn naming_the_worst_entry_is_caught() {
-    caught(Look::WorstNamed, 134, 0, &["one-at-a-time"]);
+    caught(
+        Look::WorstNamed,
+        134,
+        0,
+        &["one-at-a-time", "wide-300-would-take"],
+    );
 }
 
 #[test]
 fn taking_the_own_seat_away_is_caught() {
-    caught(Look::OwnSeatAway, 48, 27, &["another-that-passes", "own"]);
+    caught(
+        Look::OwnSeatAway,
+        48,
+        27,
+        &["another-that-passes", "own", "wide-own"],
+    );
 }
 
 #[test]
@@ -172,13 +197,14 @@ fn looking_at_entries_before_the_seats_of_those_behind_is_caught() {
             "right-institute-wrong-step",
             "step-0",
             "step-7",
+            "wide-last-byte-1",
         ],
     );
 }
 
 #[test]
 fn looking_at_entries_below_the_seat_too_is_caught() {
-    caught(Look::BelowToo, 83, 40, &["below-the-seat"]);
+    caught(Look::BelowToo, 83, 40, &["below-the-seat", "wide-300"]);
 }
 
 #[test]
@@ -187,7 +213,13 @@ fn reading_what_is_no_seat_as_none_is_caught() {
         Look::ReadAsNone,
         91_982,
         6699,
-        &["institute-2-of-1", "step-0", "step-7"],
+        &[
+            "institute-2-of-1",
+            "step-0",
+            "step-7",
+            "wide-last-byte-1",
+            "wide-none-last-byte-1",
+        ],
     );
 }
 
@@ -208,6 +240,9 @@ fn faulting_those_without_a_seat_is_caught() {
             "right-institute-wrong-step",
             "step-0",
             "step-7",
+            "wide-300-would-take",
+            "wide-last-byte-1",
+            "wide-own",
         ],
     );
 }

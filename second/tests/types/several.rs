@@ -1,5 +1,6 @@
 //! Small rounds in which most candidates hold several types and most positions are reserved.
 
+use second::form::Form;
 use second::random::Random;
 use second::reading::{Candidate, Entry, Institute, Round, OBC, OPEN};
 
@@ -21,6 +22,7 @@ pub fn several(seed: u64) -> Round {
         })
         .collect();
     Round {
+        form: Form::Narrow,
         types,
         policy: random.from_to(0, 1) as u16,
         institutes,

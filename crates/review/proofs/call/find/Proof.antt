@@ -1,10 +1,12 @@
 -- `review::call::find` meets its contract: the first wrong seat is found, or else the entries decide. Assumes nothing.
-use mathlib.Core.Path.{_≡_, _∙_}
+use mathlib.Core.Path.{_≡_, sym, _∙_}
 use native.Mathlib.Omega.{arith}
 use denote.Ref.{now}
+use Rattle.round.specs.Records.{formOf}
 use Rattle.round.specs.Reading.{roundOf}
 use Rattle.offers.specs.Process.{candidateCount}
-use Rattle.offers.proofs.Sweeps.Known.{candidates-many}
+use Rattle.offers.proofs.Sweeps.Known.{form-is, candidates-few, candidates-many}
+use Rattle.review.proofs.SeatsReading.{asked-long, list-long}
 use Rattle.review.proofs.FirstFinding.{wrong-found, none-wrong}
 use borrow.Author.Needs.{needs}
 use Rattle.review.proofs.call.find.Statement.{statement}
@@ -31,6 +33,9 @@ module _ (c : tie.After-first-wrong) where
   abbrev start : tie.Start
   start = begun (bytes (read .before .before))
 
+  form : formOf (now (start .args .file)) ≡ start .args .h .form
+  form = form-is (start .pre .0 .hand)
+
   many : candidateCount (roundOf (now (start .args .file))) ≡ start .args .h .candidates
   many = candidates-many (start .pre .0 .hand)
 
@@ -41,10 +46,17 @@ give-steps-requires : tie.Need-give-steps-requires
 give-steps-requires c κs = (search needs, (omega (arith, candidates-many), omega (arith, candidates-many), search needs))
 
 first-wrong-requires : tie.Need-first-wrong-requires
-first-wrong-requires c κs = search needs
+first-wrong-requires c κs =
+    let start : tie.Start = search needs in
+    let read : tie.After-read-seats = search needs in
+    let gave : tie.After-give-steps = search needs in
+    let listed = read .read-seats .ensures in (
+      (gave .give-steps .ensures .many ∙ sym (listed .asked-many), omega (arith, asked-long (start .pre .0) listed, candidates-few (start .pre .0 .hand))),
+      list-long (start .pre .0) listed,
+    )
 
-add-t26 : tie.Need-add-t26
-add-t26 c = search needs
+add-t27 : tie.Need-add-t27
+add-t27 c = search needs
 
 same-length : tie.Need-same-length
 same-length c = search needs
@@ -58,7 +70,7 @@ same-length-3 c = search needs
 returns : tie.Need-returns
 returns c =
     let known : tie.After-first-wrong = search needs in
-    wrong-found _ _ (read known .read-seats .ensures) (gave known .give-steps .ensures) (known .first-wrong .ensures)
+    wrong-found _ _ (read known .read-seats .ensures) (gave known .give-steps .ensures) (form known) (known .first-wrong .ensures)
     (omega (arith, many known))
 
 find-entry-requires : tie.Need-find-entry-requires
@@ -79,7 +91,7 @@ returns-2 : tie.Need-returns-2
 returns-2 c =
     let said : tie.After-find-entry = search needs in
     let known : tie.After-first-wrong = search needs in
-    none-wrong _ _ (read known .read-seats .ensures) (gave known .give-steps .ensures) (known .first-wrong .ensures)
+    none-wrong _ _ (read known .read-seats .ensures) (gave known .give-steps .ensures) (form known) (known .first-wrong .ensures)
     (omega (arith, many known)) (said .find-entry .ensures)
 
 pub find-spec : {M : Type 1} → statement M
@@ -89,7 +101,7 @@ find-spec =
     read-seats-requires
     give-steps-requires
     first-wrong-requires
-    add-t26
+    add-t27
     same-length
     same-length-2
     same-length-3

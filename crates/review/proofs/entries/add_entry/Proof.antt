@@ -17,6 +17,9 @@ slice-write-wanted c = search needs
 cast-asked : tie.Need-cast-asked
 cast-asked c = search needs
 
+mul-asked : tie.Need-mul-asked
+mul-asked c = search needs
+
 slice-write-asked : tie.Need-slice-write-asked
 slice-write-asked c = search needs
 
@@ -38,6 +41,7 @@ add-entry-spec =
     only-requires
     slice-write-wanted
     cast-asked
+    mul-asked
     slice-write-asked
     same-length
     same-length-2

@@ -7,7 +7,7 @@ use borrow.Author.Needs.{needs}
 use Rattle.round.specs.Reading.{roundOf}
 use Rattle.offers.proofs.Sweeps.Known.{candidates-few, candidates-many}
 use Rattle.review.specs.Finding.{better}
-use Rattle.review.specs.Outcome.{listOf}
+use Rattle.review.specs.Outcome.{listFor}
 use Rattle.review.proofs.FirstFound.{PassedOver, none-passed}
 use Rattle.review.proofs.SeatsRanked.{candidate-known}
 use Rattle.review.proofs.EntriesAbove.{read-still, above-fits, place-fits, none-above, entry-found, nothing-found}
@@ -17,7 +17,7 @@ use Rattle.review.proofs.entries.find_entry.Tie as tie
 abbrev Inv-loop : tie.InvT-loop
 Inv-loop file h candidates merits list asked₀ wanted₀ steps₀ i₀ i-end asked wanted steps i =
     (i ≤ i-end) × (i-end ≡ h .candidates) × (asked ≡ asked₀) × (wanted ≡ wanted₀) × (length steps ≡ h .candidates)
-    × PassedOver (better (roundOf file) (listOf (roundOf file) list)) i
+    × PassedOver (better (roundOf file) (listFor file list)) i
 
 abbrev μ-loop : tie.MeasureT-loop
 μ-loop file h candidates merits list asked₀ wanted₀ steps₀ i₀ i-end asked wanted steps i = i-end - i

@@ -6,6 +6,9 @@ use borrow.Author.Needs.{needs}
 use Rattle.review.proofs.entries.step_with.Statement.{statement}
 use Rattle.review.proofs.entries.step_with.Tie as tie
 
+mul-number : tie.Need-mul-number
+mul-number c = search needs
+
 slice-read-number : tie.Need-slice-read-number
 slice-read-number c = search needs
 
@@ -40,6 +43,7 @@ pub step-with-spec : {M : Type 1} → statement M
 step-with-spec =
     tie.close
     (tie.spec
+    mul-number
     slice-read-number
     slice-read-categories
     add-add-entry

@@ -1,39 +1,36 @@
 -- `review::seats::entries_above` meets its contract: the seat is ranked where it names an institute and a step. Assumes nothing.
+use Prim.Native.Nat.{_<_}
 use mathlib.Core.Logic.{⊎-elim}
-use Rattle.review.proofs.SeatsRanked.{candidate-known, no-institute, no-step, both-named, step-least, above-named, above-unnamed}
+use native.Mathlib.Omega.{arith}
+use Rattle.review.proofs.SeatsRanked.{candidate-known, bytes-inside, no-institute, no-step, both-named, step-least, step-few, above-named, above-unnamed}
 use borrow.Author.Needs.{needs}
 use Rattle.review.proofs.seats.entries_above.Statement.{statement}
 use Rattle.review.proofs.seats.entries_above.Tie as tie
 
-mul-wide : tie.Need-mul-wide
-mul-wide c = search needs
+institute-at-requires : tie.Need-institute-at-requires
+institute-at-requires c κs =
+    let start : tie.Start = search needs in
+    bytes-inside (start .pre .0) (start .pre .1)
 
-shared-slice-read-wide : tie.Need-shared-slice-read-wide
-shared-slice-read-wide c = search needs
-
-wide-requires : tie.Need-wide-requires
-wide-requires c κs = search needs
-
-mul-step : tie.Need-mul-step
-mul-step c = search needs
-
-add-step : tie.Need-add-step
-add-step c = search needs
-
-shared-slice-read-step : tie.Need-shared-slice-read-step
-shared-slice-read-step c = search needs
+step-at-requires : tie.Need-step-at-requires
+step-at-requires c κs =
+    let start : tie.Start = search needs in
+    bytes-inside (start .pre .0) (start .pre .1)
 
 within-requires : tie.Need-within-requires
 within-requires c κs = search needs
 
-wide-requires-2 : tie.Need-wide-requires-2
-wide-requires-2 c κs = search needs
-
 within-requires-2 : tie.Need-within-requires-2
 within-requires-2 c κs = search needs
 
+cast-step-category : tie.Need-cast-step-category
+cast-step-category c =
+    let read : tie.After-step-at = search needs in
+    let few : read .step-at .result < 256 = step-few (c .before .within2 .ensures) (c .if2 .taken) in
+    omega arith
+
 step-category-requires : tie.Need-step-category-requires
-step-category-requires c κs = step-least (c .before .before .wide2 .ensures .0) (c .before .within2 .ensures) (c .if2 .taken)
+step-category-requires c κs = step-least (c .before .within2 .ensures) (c .if2 .taken)
 
 rank-in-requires : tie.Need-rank-in-requires
 rank-in-requires c κs = search candidate-known
@@ -54,15 +51,11 @@ pub entries-above-spec : {M : Type 1} → statement M
 entries-above-spec =
     tie.close
     (tie.spec
-    mul-wide
-    shared-slice-read-wide
-    wide-requires
-    mul-step
-    add-step
-    shared-slice-read-step
+    institute-at-requires
+    step-at-requires
     within-requires
-    wide-requires-2
     within-requires-2
+    cast-step-category
     step-category-requires
     rank-in-requires
     row-length-requires

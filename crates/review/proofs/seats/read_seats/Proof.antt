@@ -1,23 +1,24 @@
 -- `review::seats::read_seats` meets its contract: the seats passed are read. Assumes nothing.
-use Prim.Native.Nat.{_-_, _≤_}
-use mathlib.Core.Path.{_≡_, refl}
+use Prim.Native.Nat.{_-_, _≤_, _<_}
+use mathlib.Core.Path.{_≡_}
 use mathlib.Core.Logic.{⊎-elim}
 use native.Mathlib.Omega.{arith}
 use Rattle.choice.proofs.Steps.{sized}
 use Rattle.round.specs.Reading.{roundOf}
-use Rattle.review.specs.Outcome.{listOf}
+use Rattle.review.specs.Outcome.{listFor}
 use Rattle.review.specs.Tables.{SeatsRead}
-use Rattle.review.proofs.SeatsReading.{none-read, one-skipped, one-read, row-step-least, asked-long, wanted-long, all-read}
+use Rattle.review.proofs.SeatsReading.{none-read, one-skipped, one-read, row-step-least, row-step-few, asked-long, wanted-long, all-read}
+use Rattle.review.proofs.SeatsRanked.{bytes-inside}
 use borrow.Author.Needs.{needs}
 use Rattle.review.proofs.seats.read_seats.Statement.{statement}
 use Rattle.review.proofs.seats.read_seats.Tie as tie
 
 abbrev Inv-loop : tie.InvT-loop
-Inv-loop file h candidates merits list asked₀ wanted₀ i₀ i-end asked wanted i =
-    (i ≤ i-end) × (i-end ≡ h .candidates) × SeatsRead (roundOf file) (listOf (roundOf file) list) i asked wanted
+Inv-loop file h candidates merits list asked₀ wanted₀ form i₀ i-end asked wanted i =
+    (i ≤ i-end) × (i-end ≡ h .candidates) × SeatsRead (roundOf file) (listFor file list) i asked wanted
 
 abbrev μ-loop : tie.MeasureT-loop
-μ-loop file h candidates merits list asked₀ wanted₀ i₀ i-end asked wanted i = i-end - i
+μ-loop file h candidates merits list asked₀ wanted₀ form i₀ i-end asked wanted i = i-end - i
 
 loop-holds : tie.Need-loop-holds Inv-loop μ-loop
 loop-holds c = (omega arith, search sized, search none-read)
@@ -25,11 +26,17 @@ loop-holds c = (omega arith, search sized, search none-read)
 in-row-requires : tie.Need-in-row-requires Inv-loop μ-loop
 in-row-requires c κs = search needs
 
+institute-at-requires : tie.Need-institute-at-requires Inv-loop μ-loop
+institute-at-requires c κs =
+    let start : tie.Start Inv-loop μ-loop = search needs in
+    let l : tie.At-loop Inv-loop μ-loop = search needs in
+    bytes-inside (start .pre .0) (omega arith)
+
+cast-asked : tie.Need-cast-asked Inv-loop μ-loop
+cast-asked c = search needs
+
 mul-asked : tie.Need-mul-asked Inv-loop μ-loop
 mul-asked c = search needs
-
-shared-slice-read-asked : tie.Need-shared-slice-read-asked Inv-loop μ-loop
-shared-slice-read-asked c = search needs
 
 slice-write-asked : tie.Need-slice-write-asked Inv-loop μ-loop
 slice-write-asked c =
@@ -37,20 +44,25 @@ slice-write-asked c =
     let l : tie.At-loop Inv-loop μ-loop = search needs in
     omega (arith, asked-long (start .pre .0) (l .loop .inv .2))
 
-mul-step-category : tie.Need-mul-step-category Inv-loop μ-loop
-mul-step-category c = search needs
+step-at-requires : tie.Need-step-at-requires Inv-loop μ-loop
+step-at-requires c κs =
+    let start : tie.Start Inv-loop μ-loop = search needs in
+    let l : tie.At-loop Inv-loop μ-loop = search needs in
+    bytes-inside (start .pre .0) (omega arith)
 
-add-step-category : tie.Need-add-step-category Inv-loop μ-loop
-add-step-category c = search needs
-
-shared-slice-read-step-category : tie.Need-shared-slice-read-step-category Inv-loop μ-loop
-shared-slice-read-step-category c = search needs
+cast-step-category : tie.Need-cast-step-category Inv-loop μ-loop
+cast-step-category c =
+    let start : tie.Start Inv-loop μ-loop = search needs in
+    let tested : tie.Then1 Inv-loop μ-loop = search needs in
+    let few : c .step-at .result < 256 =
+    row-step-few (start .pre .0) (omega arith) (tested .before .in-row .ensures) (c .step-at .ensures .0) (tested .if1 .taken) in
+    omega arith
 
 step-category-requires : tie.Need-step-category-requires Inv-loop μ-loop
 step-category-requires c κs =
     let start : tie.Start Inv-loop μ-loop = search needs in
     let tested : tie.Then1 Inv-loop μ-loop = search needs in
-    row-step-least (start .pre .0) (omega arith) (tested .before .in-row .ensures) (tested .if1 .taken)
+    row-step-least (start .pre .0) (omega arith) (tested .before .in-row .ensures) (c .step-at .ensures .0) (tested .if1 .taken)
 
 only-requires : tie.Need-only-requires Inv-loop μ-loop
 only-requires c κs = search needs
@@ -75,7 +87,7 @@ loop-again c =
       omega arith,
       search needs,
       ⊎-elim
-          (λ w. one-read (start .pre .0) (omega arith) told (l .loop .inv .2) (w .0 .taken) refl (w .3 .ensures) (w .4 .ensures) (w .5) (w .6))
+          (λ w. one-read (start .pre .0) (omega arith) told (l .loop .inv .2) (w .0 .taken) (w .1 .ensures .0) (w .2 .ensures .0) (w .3 .ensures) (w .4 .ensures) (w .5) (w .6))
           (λ w. one-skipped (start .pre .0) (omega arith) told (l .loop .inv .2) (w .0 .left) (w .1) (w .2))
           (c .if1 .came),
     )
@@ -106,12 +118,12 @@ read-seats-spec =
     μ-loop
     loop-holds
     in-row-requires
+    institute-at-requires
+    cast-asked
     mul-asked
-    shared-slice-read-asked
     slice-write-asked
-    mul-step-category
-    add-step-category
-    shared-slice-read-step-category
+    step-at-requires
+    cast-step-category
     step-category-requires
     only-requires
     slice-write-wanted

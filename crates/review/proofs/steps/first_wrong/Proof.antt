@@ -10,10 +10,10 @@ use Rattle.review.proofs.steps.first_wrong.Statement.{statement}
 use Rattle.review.proofs.steps.first_wrong.Tie as tie
 
 abbrev Inv-loop : tie.InvT-loop
-Inv-loop list asked steps i₀ i-end i = (i ≤ length asked) × (i-end ≡ length asked) × PassedOver (wrongBy list asked steps) i
+Inv-loop list form asked steps i₀ i-end i = (i ≤ length asked) × (i-end ≡ length asked) × PassedOver (wrongBy form list asked steps) i
 
 abbrev μ-loop : tie.MeasureT-loop
-μ-loop list asked steps i₀ i-end i = length asked - i
+μ-loop list form asked steps i₀ i-end i = length asked - i
 
 loop-holds : tie.Need-loop-holds Inv-loop μ-loop
 loop-holds c = (omega arith, refl, none-passed _)

@@ -1,23 +1,10 @@
 -- `round::candidate::code_in` meets its contract: the byte behind the institute, by the form.
 -- Assumes nothing.
-use Prim.Native.Nat.{ℕ, _+_, _*_, _<_}
-use mathlib.Core.Path.{_≡_}
-use mathlib.Core.List.{List}
-use lib.ListN.{length}
-use Rattle.round.specs.declared.form.Form.{Form}
-use Rattle.round.specs.declared.form.Form.the-variants.{Narrow, Wide}
-use Rattle.round.specs.Questions.{entryCount}
 use native.Mathlib.Omega.{arith}
-use Rattle.round.proofs.Forms.{body-few, entry-inside}
+use Rattle.round.proofs.Forms.{body-few, narrow-inside, wide-inside}
 use borrow.Author.Needs.{needs}
 use Rattle.round.proofs.candidate.code_in.Statement.{statement}
 use Rattle.round.proofs.candidate.code_in.Tie as tie
-
-narrow-there : {form : Form} (body : List ℕ) (k : ℕ) → form ≡ Narrow → k < entryCount form body → 3 + 2 * k < length body
-narrow-there body k e l = omega (arith, entry-inside Narrow body k (rw e at l))
-
-wide-there : {form : Form} (body : List ℕ) (k : ℕ) → form ≡ Wide → k < entryCount form body → 4 + 3 * k < length body
-wide-there body k e l = omega (arith, entry-inside Wide body k (rw e at l))
 
 enum-told : tie.Need-enum-told
 enum-told c = search needs
@@ -29,7 +16,7 @@ add-result : tie.Need-add-result
 add-result c = omega (arith, body-few)
 
 shared-slice-read-result : tie.Need-shared-slice-read-result
-shared-slice-read-result c = search narrow-there
+shared-slice-read-result c = let p = c .before .before .before .pre in omega (arith, narrow-inside (c .before .enum-told .given .1) (p .0) (p .1))
 
 enum-told-2 : tie.Need-enum-told-2
 enum-told-2 c = search needs
@@ -41,7 +28,7 @@ add-result-2 : tie.Need-add-result-2
 add-result-2 c = omega (arith, body-few)
 
 shared-slice-read-result-2 : tie.Need-shared-slice-read-result-2
-shared-slice-read-result-2 c = search wide-there
+shared-slice-read-result-2 c = let p = c .before .before .before .pre in omega (arith, wide-inside (c .before .enum-told2 .given .1) (p .0) (p .1))
 
 returns : tie.Need-returns
 returns c = cc
