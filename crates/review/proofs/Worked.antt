@@ -1,5 +1,5 @@
--- The worked lists of rounds/lists: one table of file bytes, lists and what a review says, and one theorem, computed on the definitions from the
--- bytes to the outcome.
+-- The worked lists of rounds/lists, but for those of the round with 300 institutes: one table of file bytes, lists and what a review says, and one
+-- theorem, computed on the definitions from the bytes to the outcome.
 use Prim.Native.Nat.{ℕ}
 use mathlib.Core.Path.{_≡_, refl}
 use mathlib.Core.List.{List, [], _∷_, _++_, map}
