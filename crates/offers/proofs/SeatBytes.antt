@@ -11,6 +11,14 @@ pub seat-within : (form : Form) (n i : ℕ) → i < n → seatWidth form * i + s
 seat-within Narrow n i l = omega arith
 seat-within Wide n i l = omega arith
 
+pub seat-inside : (form : Form) {size n i : ℕ} → size ≡ seatWidth form * n → i < n → seatWidth form * i + seatWidth form ≤ size
+seat-inside form {n = n} {i = i} e l = rw e (seat-within form n i l)
+
+-- the seats of a round have at most 2,048 bytes
+pub seats-most : (form : Form) (n : ℕ) → n ≤ 512 → seatWidth form * n ≤ 2048
+seats-most Narrow n l = omega arith
+seats-most Wide n l = omega arith
+
 -- in a narrow file it has two bytes, in a wide one four
 module _ {form : Form} (i size : ℕ) (inside : seatWidth form * i + seatWidth form ≤ size) where
   pub narrow-bytes : form ≡ Narrow → 2 * i + 2 ≤ size

@@ -7,7 +7,6 @@ use lib.ListN.{length, getD}
 use Rattle.round.specs.Lists.{tabulate, joined}
 use Rattle.round.specs.Records.{word}
 use Rattle.round.specs.declared.form.Form.{Form}
-use Rattle.round.specs.declared.form.Form.the-variants.{Narrow, Wide}
 use Rattle.round.specs.Form.{seatWidth}
 use Rattle.offers.specs.Areas.{seatIn}
 use Rattle.offers.proofs.SeatBytes.{seat-within}
@@ -59,11 +58,6 @@ pub seat-more : (form : Form) (answer : List ℕ) (types i : ℕ) {page mid now 
     → Put page at (joined (tabulate i (seatText form answer types))) mid next → Put mid next (seatText form answer types i) now behind
     → Put page at (joined (tabulate (i + 1) (seatText form answer types))) now behind
 seat-more form answer types i p q = put-piece (seatText form answer types) i p q
-
--- the seats of the largest round have 2,048 bytes
-pub seats-most : (form : Form) (n : ℕ) → n ≤ 512 → seatWidth form * n ≤ 2048
-seats-most Narrow n l = omega arith
-seats-most Wide n l = omega arith
 
 -- the bytes of candidate i's seat stand in an answer area
 pub seat-there : (form : Form) (n m i : ℕ) {size : ℕ} → i < n → sizeFor form n m ≤ size → seatWidth form * i + seatWidth form ≤ size

@@ -8,7 +8,6 @@ pub mod Worked
 pub mod Promised
 pub mod Calling
 pub mod FirstFound
-pub mod SeatBytes
 pub mod SeatsOffered
 pub mod SeatsRanked
 pub mod SeatsReading

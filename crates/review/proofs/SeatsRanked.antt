@@ -28,7 +28,7 @@ use Rattle.review.specs.Finding.{inRow, above}
 use Rattle.review.specs.Outcome.{listFor}
 use Rattle.review.specs.Tables.{UnderReview}
 use Rattle.review.proofs.InRow.{step-numbers, rank-none}
-use Rattle.review.proofs.SeatBytes.{seat-inside}
+use Rattle.offers.proofs.SeatBytes.{seat-inside}
 use Rattle.review.proofs.SeatsOffered.{seat-at}
 
 -- a seat at a step of an institute stands for the entry of its institute with the category of its step

@@ -7,7 +7,6 @@ use lib.ListN.{length, getD, drop, length-append}
 use lib.Seq.{sets, ext-getD}
 use Rattle.round.specs.Lists.{tabulate, joined}
 use Rattle.round.specs.declared.form.Form.{Form}
-use Rattle.round.specs.declared.form.Form.the-variants.{Narrow, Wide}
 use Rattle.round.specs.Form.{seatWidth}
 use Rattle.round.specs.Round.{Round}
 use Rattle.round.specs.declared.head.Head.{Head as CodeHead}
@@ -24,6 +23,7 @@ use Rattle.allotment.specs.Writing.{seatHeld, seatsHeld, heldBytes, Hold
 use Rattle.offers.proofs.Rounds.Bounds.{list-length}
 use Rattle.offers.proofs.Rounds.AccountRound.{types-length}
 use Rattle.offers.proofs.Rounds.SeatsFew.{seat-few}
+use Rattle.offers.proofs.SeatBytes.{seats-most}
 use Rattle.allotment.proofs.Files.Pieces.{length-pieces}
 use Rattle.allotment.proofs.Files.AreaSeats.{length-seat, length-closing, size-parts, length-answer}
 use Rattle.allotment.proofs.Files.Closing.{held-at}
@@ -76,11 +76,7 @@ module _ {file : List ℕ} {h : CodeHead} {merits holders steps types : List ℕ
       rw (← form-known) (omega (arith, at, seat-few (sound file (known .closing .accepted)) i inside, length-institutes file, range))
 
   pub seats-few : seatWidth (h .form) * length holders ≤ 2048
-  seats-few = by-form (h .form)
-    where
-      by-form : (form : Form) → seatWidth form * length holders ≤ 2048
-      by-form Narrow = omega (arith, holders-few)
-      by-form Wide = omega (arith, holders-few)
+  seats-few = seats-most (h .form) (length holders) holders-few
 
   types-many : length types ≡ candidateCount r
   types-many = ap length (known .closing .typed) ∙ types-length r

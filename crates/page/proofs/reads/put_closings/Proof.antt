@@ -6,7 +6,8 @@ use native.Mathlib.Omega.{arith}
 use Rattle.round.specs.Lists.{tabulate, joined}
 use Rattle.text.specs.Put.{Put}
 use Rattle.text.proofs.Putting.{put-none}
-use Rattle.page.proofs.Pieces.{closingText, seats-most, closing-there, closing-fits, closing-more, closings-put}
+use Rattle.offers.proofs.SeatBytes.{seats-most}
+use Rattle.page.proofs.Pieces.{closingText, closing-there, closing-fits, closing-more, closings-put}
 use Rattle.page.proofs.reads.put_closings.Statement.{statement}
 use Rattle.page.proofs.reads.put_closings.Tie as tie
 

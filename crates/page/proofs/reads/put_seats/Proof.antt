@@ -8,7 +8,8 @@ use Rattle.round.specs.Form.{seatWidth}
 use Rattle.round.specs.Lists.{tabulate, joined}
 use Rattle.text.specs.Put.{Put}
 use Rattle.text.proofs.Putting.{put-none}
-use Rattle.page.proofs.Pieces.{seatText, seats-most, seat-there, type-there, seat-fits, seat-more, seats-put}
+use Rattle.offers.proofs.SeatBytes.{seats-most}
+use Rattle.page.proofs.Pieces.{seatText, seat-there, type-there, seat-fits, seat-more, seats-put}
 use Rattle.page.proofs.reads.put_seats.Statement.{statement}
 use Rattle.page.proofs.reads.put_seats.Tie as tie
 

@@ -1,6 +1,6 @@
 -- `review::steps::is_wrong` meets its contract: the tests are those of the definition. Assumes nothing.
 use mathlib.Core.Logic.{⊎-elim}
-use Rattle.review.proofs.SeatBytes.{seat-inside}
+use Rattle.offers.proofs.SeatBytes.{seat-inside}
 use Rattle.review.proofs.WrongSeats.{nothing-wrong, no-seat, some-institute, some-step, wrong-unoffered, wrong-stepped}
 use borrow.Author.Needs.{needs}
 use Rattle.review.proofs.steps.is_wrong.Statement.{statement}
