@@ -26,7 +26,7 @@ fn ended() -> bool {
     libc::read(STDIN_FILENO, &mut more) == 0
 }
 
-// Hands what is printed for a file to standard output.
+// Hands what is printed for an input to standard output, by all of its bytes or its first 65,537.
 fn hand_out(file: &[u8], text: &[u8]) -> bool
     requires { ⌜ now text ≡ printed (now file) ⌝ }
 {

@@ -1,7 +1,6 @@
 -- The promise of the public call: demands 1, 2 and 3 of the letter, for every input, with the closing places of document 02, Point 1, that any
--- order of offers ends, with the offers, seats and steps of the list, its Point 2, and the types used, its Point 3; files of both forms, its Point 6,
--- are files like any other. That no call reads outside
--- the file, goes wrong or fails to finish is part of what it is for a function to be proved.
+-- order of offers ends, with the offers, seats and steps of the list, its Point 2, and the types used, its Point 3, for files of both forms, its
+-- Point 6. That no call reads outside the file, goes wrong or fails to finish is part of what it is for a function to be proved.
 use mathlib.Core.Path.{_≡_}
 use Prim.Native.Nat.{ℕ}
 use mathlib.Core.List.{List}

@@ -1,4 +1,4 @@
--- What the program prints for a round file, byte by byte (document 01, "Worked rounds"; document 02, Points 1, 3 and 6).
+-- What the program prints for an input, byte by byte (document 01, "Worked rounds"; document 02, Points 1, 3 and 6).
 use Prim.Native.Nat.{ℕ, _+_}
 use mathlib.Core.Bool.{cond}
 use mathlib.Core.List.{List, _++_}
@@ -51,7 +51,7 @@ printedBy (refused number offset) r = refusedLine number offset
 unfoldable pub printedFor : List ℕ → List ℕ
 printedFor file = printedBy (verdict file) (roundOf file)
 
--- what is printed for an input: the program alone refuses one above 65,536 bytes by 16, before question 1
+-- what is printed for an input: the program alone refuses one above 65,536 bytes by 16 at 0, before question 1
 unfoldable pub printed : List ℕ → List ℕ
 printed input =
     let read = printedFor input in

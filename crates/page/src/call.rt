@@ -1,4 +1,4 @@
-// What is printed for a round file.
+// What is printed for an input.
 use crate::lines::put_refusal;
 use crate::reads::put_allotment;
 use allotment::Answer;

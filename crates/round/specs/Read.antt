@@ -11,7 +11,7 @@ use Rattle.round.specs.Form.{institutesMost, entryWidth}
 use Rattle.round.specs.Records.{Head}
 use Rattle.round.specs.Questions.{within, instituteIn, codeIn}
 
--- the numbers of a head that was read
+-- the form and the numbers of a head that was read
 abbrev pub asHead : code.Head.Head → Head
 asHead h = record { form = h .form; candidates = h .candidates; institutes = h .institutes; types = h .types; policy = h .policy }
 
@@ -29,7 +29,7 @@ pub record InstituteBody (types : ℕ) (body : List ℕ) : Type 0 where
   pub types-most : types ≤ 8
   pub long : length body ≡ 10 + 10 * types
 
--- a body of a length that a candidate's may have
+-- a body no shorter and no longer than a candidate's may be; that it holds whole entries is for question 3
 pub record CandidateBody (form : Form) (body : List ℕ) : Type 0 where
   pub least : 2 ≤ length body
   pub most : length body ≤ 2 + 16 * entryWidth form

@@ -1,5 +1,5 @@
--- The round that a file means (document 01, "Round file"; document 02, Point 6), and the steps of the two policies ("One institute chooses"). The two
--- forms of a file differ in how an entry is read, and in nothing else.
+-- The round that a file means (document 01, "Round file"; document 02, Point 6), and the steps of the two policies ("One institute chooses"). What a
+-- lawful file means differs between the two forms in how an entry is read, and in nothing else.
 use Prim.Native.Nat.{ℕ}
 use mathlib.Core.Bool.{cond}
 use mathlib.Core.List.{List, [], _∷_}

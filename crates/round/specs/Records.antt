@@ -40,7 +40,8 @@ bodyOf file k = bodyAt file (startOf file k)
 abbrev pub recordOf : List ℕ → ℕ → List ℕ
 recordOf file k = take (4 + lengthAt file (startOf file k)) (drop (startOf file k) file)
 
--- the form of a file: wide where the record that stands first has kind 5, else narrow; a file without four lead bytes is refused in either form
+-- the form of a file: wide where the record that stands first has kind 5, else narrow; a file without four lead bytes is refused by 1, and one with
+-- another kind than 1 and 5 by 2, in either form
 unfoldable pub formOf : List ℕ → Form
 formOf file = cond (leb 4 (length file)) (cond (eqb (kindAt file 0) 5) Wide Narrow) Narrow
 

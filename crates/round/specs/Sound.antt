@@ -36,6 +36,7 @@ pub record Sound (types : ℕ) (r : Round) : Type 0 where
   pub candidates-least : 1 ≤ length (r .candidates)
   pub candidates-most : length (r .candidates) ≤ 512
   pub institutes-least : 1 ≤ length (r .institutes)
+  -- the bound of a wide file; that of a narrow one is a question of the file
   pub institutes-most : length (r .institutes) ≤ 1000
   pub candidate : (i : ℕ) → i < length (r .candidates) → SoundCandidate (length (r .institutes)) types (candidateAt r i)
   pub institute : (j : ℕ) → j < length (r .institutes) → SoundInstitute (length (r .candidates)) types (instituteAt r j)

@@ -14,7 +14,7 @@ ghost use Rattle.round.specs.Records.{formOf};
 ghost use Rattle.round.specs.Read.{asHead, InRange};
 ghost use Rattle.round.specs.Outcome.{refusalOf, RestRead, RoundRead};
 
-// What reading a file comes to: the numbers of its round, or the first question answered no and its byte.
+// What reading a file comes to: its form and the numbers of its round, or the first question answered no and its byte.
 pub enum Reading {
     Read(Head),
     Refused { number: usize, offset: usize },

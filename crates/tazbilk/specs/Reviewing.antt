@@ -1,4 +1,4 @@
--- The review as C and Rust call it: what it says goes out as four numbers (document 02, Point 5).
+-- The review as C and Rust call it: what it says goes out as four numbers (document 02, Points 5 and 6).
 use Prim.Native.Nat.{ℕ}
 use mathlib.Core.Path.{_≡_}
 use mathlib.Core.List.{List, [], _∷_}
