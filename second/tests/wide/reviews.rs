@@ -5,7 +5,7 @@ use crate::stability::unstable;
 use crate::tiny::tiny;
 use second::answer::answer_of;
 use second::choice::Document;
-use second::generate::{lawful, lawful_round, Class};
+use second::generate::{lawful, lawful_round, wide_damaged, Class};
 use second::list::seat_bytes;
 use second::offers::{allot, Seat};
 use second::random::Random;
@@ -221,6 +221,22 @@ fn a_wide_list_of_any_length_but_4n_is_refused() {
         assert_eq!(said, refused(14));
         let said = review(&file, &list, &mut vec![7; 8 * n]);
         assert!(!matches!(said, Review::Refused { .. }));
+    }
+}
+
+#[test]
+fn a_wide_file_that_is_not_allotted_is_not_reviewed() {
+    for seed in 0..520 {
+        let made = wide_damaged((seed % 13) as u8 + 1, seed);
+        let due = Review::Refused {
+            number: made.number,
+            offset: made.offset,
+        };
+        for (length, work_len) in [(0, 0), (12, 24), (96, 192), (2048, 4096)] {
+            let mut work = vec![7; work_len];
+            assert_eq!(review(&made.file, &vec![0; length], &mut work), due);
+            assert_eq!(work, vec![7; work_len]);
+        }
     }
 }
 
