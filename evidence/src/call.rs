@@ -52,7 +52,7 @@ fn answer_of(outcome: &Outcome) -> Answer {
 }
 
 /// What a call came to.
-fn came(answer: &Answer) -> Came {
+pub fn came(answer: &Answer) -> Came {
     match answer {
         Answer::Allotted { .. } => Came::Accepted,
         Answer::Refused(refusal) => Came::Refused(refusal.number),

@@ -1,13 +1,13 @@
 //! The unit on a narrow file and on the same one rewritten in the wide form: both calls have to say the same.
 
 use crate::area::Area;
-use crate::call::needed;
+use crate::call::{self, needed};
 use crate::classes::{worked, Run};
-use crate::difference::{hex, Difference};
-use crate::files::{at_edges, named, Made};
+use crate::difference::{area_text, Difference};
+use crate::files::{at_edges, Made};
 use crate::lists::Listed;
 use crate::plan;
-use crate::review::came;
+use crate::review;
 use crate::reviews::worked_lists;
 use crate::tally::{Came, Tally};
 use second::form::Form;
@@ -15,68 +15,71 @@ use second::random::Random;
 use second::reading::read;
 use second::widening::{widened, widened_list};
 use std::path::Path;
-use tazbilk::{Answer, Judgement};
+use tazbilk::{list_size, Answer};
 
 /// The name of the class of calls, and that of reviews.
 pub const CALLS: &str = "widened";
 pub const REVIEWS: &str = "widened, reviews";
 
-/// The unit's answer for a file and what both areas hold then, lent at just the lengths that the round needs.
-fn allotted(random: &mut Random, file: &[u8]) -> (Answer, Vec<u8>, Vec<u8>) {
+/// What stands for the second program where a case differs.
+const UNIT_TOO: &str = "'second' is what the unit says of the narrow one";
+
+/// Both areas, of just the lengths that the round of a file needs.
+fn areas(random: &mut Random, file: &[u8]) -> (Area, Area) {
     let least = needed(file).expect("a lawful file");
-    let mut answer = Area::new(random, least.answer);
-    let mut work = Area::new(random, least.work);
-    let said = tazbilk::allot(file, answer.lent(), work.lent());
-    (said, answer.seen().to_vec(), work.seen().to_vec())
+    (
+        Area::new(random, least.answer),
+        Area::new(random, least.work),
+    )
 }
 
 /// Allots a lawful narrow file and the same in the wide form, and compares offers, seats, steps, closing places and types.
 fn compare(random: &mut Random, file: &[u8]) -> (Came, Option<Difference>) {
     let wide = widened(file);
-    let (said, answer, work) = allotted(random, file);
-    let (seats, rest) = answer.split_at(work.len() / 4);
-    let due = (said, [&widened_list(seats), rest].concat(), work);
-    let found = allotted(random, &wide);
-    let text = |(said, answer, work): &(Answer, Vec<u8>, Vec<u8>)| {
-        format!("{said}; answer {}; work {}", hex(answer), hex(work))
-    };
-    let came = match due.0 {
-        Answer::Allotted { .. } => Came::Accepted,
-        Answer::Refused(refusal) => Came::Refused(refusal.number),
-    };
-    let difference = (found != due).then(|| Difference {
-        asked: "allot the file, a narrow one rewritten; `second` is the unit on the narrow one"
-            .into(),
-        input: wide,
-        list: None,
-        unit: text(&found),
-        second: text(&due),
+    let (mut narrow_answer, mut narrow_work) = areas(random, file);
+    let (mut answer, mut work) = areas(random, &wide);
+    let (mut due_answer, mut due_work) = (answer.clone(), work.clone());
+
+    let due = tazbilk::allot(file, narrow_answer.lent(), narrow_work.lent());
+    let said = tazbilk::allot(&wide, answer.lent(), work.lent());
+
+    let n = narrow_work.seen().len() / 8;
+    let (seats, rest) = narrow_answer.seen().split_at(list_size(n));
+    let bytes = [&widened_list(seats), rest].concat();
+    due_answer.lent().copy_from_slice(&bytes);
+    due_work.lent().copy_from_slice(narrow_work.seen());
+    let difference = (said != due || answer != due_answer || work != due_work).then(|| {
+        let text = |said: &Answer, answer: &Area, work: &Area, others: (&Area, &Area)| {
+            let (of_answer, of_work) = others;
+            let answer = area_text("answer", answer, of_answer);
+            format!("{said}{answer}{}", area_text("work", work, of_work))
+        };
+        Difference {
+            asked: format!("allot a narrow file rewritten; {UNIT_TOO}"),
+            input: wide,
+            list: None,
+            unit: text(&said, &answer, &work, (&due_answer, &due_work)),
+            second: text(&due, &due_answer, &due_work, (&answer, &work)),
+        }
     });
-    (came, difference)
+    (call::came(&due), difference)
 }
 
 /// Reviews a list for a lawful narrow file and the same list and file in the wide form, and compares the judgements and the work areas.
-fn compare_review(
-    random: &mut Random,
-    file: &[u8],
-    list: &[u8],
-) -> (Judgement, Option<Difference>) {
-    let least = needed(file).expect("a lawful file");
+fn compare_review(random: &mut Random, file: &[u8], list: &[u8]) -> (Came, Option<Difference>) {
     let (wide, wide_list) = (widened(file), widened_list(list));
-    let mut work = Area::new(random, least.work);
-    let mut wide_work = work.clone();
-    let due = tazbilk::review(file, list, work.lent());
-    let said = tazbilk::review(&wide, &wide_list, wide_work.lent());
-    let difference = (said != due || work != wide_work).then(|| Difference {
-        asked:
-            "review of a narrow list and file rewritten; `second` is the unit on the narrow ones"
-                .into(),
+    let (_, mut due_work) = areas(random, file);
+    let mut work = due_work.clone();
+    let due = tazbilk::review(file, list, due_work.lent());
+    let said = tazbilk::review(&wide, &wide_list, work.lent());
+    let difference = (said != due || work != due_work).then(|| Difference {
+        asked: format!("review of a narrow list and file rewritten; {UNIT_TOO}"),
         input: wide,
         list: Some(wide_list),
-        unit: format!("{said}; work {}", hex(wide_work.seen())),
-        second: format!("{due}; work {}", hex(work.seen())),
+        unit: format!("{said}{}", area_text("work", &work, &due_work)),
+        second: format!("{due}{}", area_text("work", &due_work, &work)),
     });
-    (due, difference)
+    (review::came(&due), difference)
 }
 
 impl Run {
@@ -108,8 +111,8 @@ impl Run {
         for one in worked_lists(folder) {
             let whole = needed(&one.file).is_some_and(|least| 4 * one.list.len() == least.work);
             if whole && read(&one.file).is_ok_and(|round| round.form == Form::Narrow) {
-                let (judgement, difference) = compare_review(&mut random, &one.file, &one.list);
-                tally.count(came(&judgement), difference);
+                let (came, difference) = compare_review(&mut random, &one.file, &one.list);
+                tally.count(came, difference);
             }
         }
         for listed in Listed::BOTH {
@@ -128,17 +131,13 @@ impl Run {
         listed: Listed,
         (made, count): (Made, usize),
     ) {
-        let name = format!(
-            "{REVIEWS}, {}, {}",
-            named(Form::Narrow, listed.name()),
-            made.name()
-        );
+        let name = format!("{REVIEWS}, {}, {}", listed.name(), made.name());
         for file in self.made_for(&name, made, count) {
             let file = listed.file(file);
             let Ok(round) = read(&file) else { continue };
             let list = listed.list(random, &round, &file);
-            let (judgement, difference) = compare_review(random, &file, &list);
-            tally.count(came(&judgement), difference);
+            let (came, difference) = compare_review(random, &file, &list);
+            tally.count(came, difference);
         }
     }
 }

@@ -97,9 +97,6 @@ unfolding printed
 printed-read input l p = rw (le-leb (length input) 65536 l) p
 
 -- one that is not
-pub too-long-fits : {area : List ℕ} → 57344 ≤ length area → Fits area 0 (refusedLine 16 0)
-too-long-fits l = record { room = omega (arith, refusal-short 16 0 (omega arith) (omega arith)) }
-
 pub printed-unread : (input : List ℕ) {area now : List ℕ} {size : ℕ} → 57344 ≤ length area → 65536 < length input → Put area 0 (refusedLine 16 0) now size
     → Front area (printed input) now size
-printed-unread input l m p = rw (printed-long input m) (front-put (too-long-fits l) p)
+printed-unread input l m p = rw (printed-long input m) (front-put (refusal-fits 16 0 l (omega arith) (omega arith)) p)

@@ -1,12 +1,12 @@
 -- An input above 65,536 bytes is refused by 16; any other is read.
 -- Assumes nothing.
 use borrow.Author.Needs.{needs}
-use Rattle.page.proofs.Calling.{too-long-fits, printed-unread, printed-read}
+use Rattle.page.proofs.Calling.{refusal-fits, printed-unread, printed-read}
 use Rattle.page.proofs.call.put_page.Statement.{statement}
 use Rattle.page.proofs.call.put_page.Tie as tie
 
 put-refusal-requires : tie.Need-put-refusal-requires
-put-refusal-requires c κs = search (needs, too-long-fits)
+put-refusal-requires c κs = search (needs, refusal-fits)
 
 same-length : tie.Need-same-length
 same-length c = search needs
