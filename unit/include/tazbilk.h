@@ -28,14 +28,14 @@ extern "C" {
 #define TAZBILK_LIST_MOST TAZBILK_WIDE_LIST_SIZE(512)
 
 /* Allots the seats of a round file. The result is 0, the number of offers, 0 where it is allotted, and 1, the number of the
-   question, the byte offset where it is refused; line N of unit/meanings.txt says what a refusal with number N means. Any
-   file and areas of any length are taken. Where it is allotted, the answer area begins with two bytes for each candidate,
-   institute and step (0 0 for none), then for each institute six closing places of two bytes, the low byte first: for steps
-   1 to 6, the largest merit place among those whom the step seated in its fill by merit, 0 if nobody; then one byte for each
-   candidate, from byte 2n + 12m on: the horizontal type under which the candidate is seated, 0 for those whom a step seated
-   in its fill by merit, marked or not, and for those without a seat. For a wide round each candidate has four bytes instead
-   of two: a two-byte institute, the low byte first, the step and a zero byte (0 0 0 0 for no seat); closing places and types
-   are as before, the types from byte 4n + 12m on. */
+   question, the byte offset where it is refused; line N of unit/meanings.txt says what a refusal with number N means (16 is
+   the program's alone). Any file and areas of any length are taken. Where it is allotted, the answer area begins with two
+   bytes for each candidate, institute and step (0 0 for none), then for each institute six closing places of two bytes, the
+   low byte first: for steps 1 to 6, the largest merit place among those whom the step seated in its fill by merit, 0 if
+   nobody; then one byte for each candidate, from byte 2n + 12m on: the horizontal type under which the candidate is seated,
+   0 for those whom a step seated in its fill by merit, marked or not, and for those without a seat. For a wide round each
+   candidate has four bytes instead of two: a two-byte institute, the low byte first, the step and a zero byte (0 0 0 0 for
+   no seat); closing places and types are as before, the types from byte 4n + 12m on. */
 void tazbilk_allot(const uint8_t *file, size_t file_len,
                    uint8_t *answer, size_t answer_len,
                    uint8_t *work, size_t work_len,
