@@ -19,15 +19,6 @@ pub institutes-some : (form : Form) → 1 ≤ institutesMost form
 institutes-some Narrow = omega arith
 institutes-some Wide = omega arith
 
--- an entry has two bytes or three
-pub width-least : (form : Form) → 2 ≤ entryWidth form
-width-least Narrow = omega arith
-width-least Wide = omega arith
-
-pub width-most : (form : Form) → entryWidth form ≤ 3
-width-most Narrow = omega arith
-width-most Wide = omega arith
-
 -- a body of an allowed length has at most 16 entries
 pub entries-few : (form : Form) (body : List ℕ) → length body ≤ 2 + 16 * entryWidth form → entryCount form body ≤ 16
 entries-few Narrow body l = omega arith

@@ -1,6 +1,5 @@
 // A candidate's body: code, marks and row, and questions 8 to 10.
 use crate::form::Form;
-use crate::form::entry_width;
 use crate::head::Head;
 use crate::word::wide;
 use crate::word::within;
@@ -18,7 +17,10 @@ pub fn entry_count(body: &[u8], form: Form) -> usize
     requires { ⌜ CandidateBody form (now body) ⌝ }
     ensures { λ r. ⌜ r ≡ entryCount form (now (body .entry)) ⌝ }
 {
-    (body.len() - 2) / entry_width(form)
+    match form {
+        Form::Narrow => (body.len() - 2) / 2,
+        Form::Wide => (body.len() - 2) / 3,
+    }
 }
 
 // The institute number of the entry at a place, from 0.

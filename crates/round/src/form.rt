@@ -2,7 +2,7 @@
 use crate::word::word;
 ghost use mathlib.Core.Path.{_≡_};
 ghost use Prim.Native.Nat.{_*_, _≤_};
-ghost use Rattle.round.specs.Form.{institutesMost, kindDue, entryWidth, seatWidth};
+ghost use Rattle.round.specs.Form.{institutesMost, kindDue, seatWidth};
 ghost use Rattle.round.specs.Records.{formOf};
 
 // The form of a file, and so of the seats of its round.
@@ -32,16 +32,6 @@ pub fn institutes_most(form: Form) -> usize
     match form {
         Form::Narrow => 32,
         Form::Wide => 1000,
-    }
-}
-
-// The bytes of an entry.
-pub fn entry_width(form: Form) -> usize
-    ensures { λ r. ⌜ r ≡ entryWidth form ⌝ }
-{
-    match form {
-        Form::Narrow => 2,
-        Form::Wide => 3,
     }
 }
 

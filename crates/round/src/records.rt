@@ -1,7 +1,6 @@
 // Records: questions 1 to 4, one record, and the records of one kind in a row.
 use crate::candidate::candidate_no;
 use crate::form::Form;
-use crate::form::entry_width;
 use crate::form::kind_due;
 use crate::head::Head;
 use crate::head::head_no;
@@ -28,11 +27,20 @@ pub enum Part {
 fn row_allowed(form: Form, len: usize) -> bool
     ensures { λ r. ⌜ r ≡ rowAllowed form len ⌝ }
 {
-    let width = entry_width(form);
-    if !within(2, 2 + 16 * width, len) {
-        return false;
+    match form {
+        Form::Narrow => {
+            if !within(2, 34, len) {
+                return false;
+            }
+            (len - 2) % 2 == 0
+        }
+        Form::Wide => {
+            if !within(2, 50, len) {
+                return false;
+            }
+            (len - 2) % 3 == 0
+        }
     }
-    (len - 2) % width == 0
 }
 
 // Whether the table allows a body length for a kind.
