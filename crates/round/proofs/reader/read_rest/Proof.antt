@@ -6,15 +6,21 @@ use borrow.Author.Needs.{needs}
 use Rattle.round.proofs.reader.read_rest.Statement.{statement}
 use Rattle.round.proofs.reader.read_rest.Tie as tie
 
--- where the function begins, and where the institutes, the rows and the lists are read, each seen from what follows
+-- where the function begins, and where the institutes, the rows and the lists are read and found lawful, each seen from what follows
 abbrev begun : tie.After-read-kind → tie.Start
 begun c = c .before .before .before .before .before
 
-abbrev institutes-read : tie.After-read-kind2 → tie.After-read-kind
-institutes-read c = c .before .before .before .before .before .before .before
+abbrev institutes-read : tie.After-institutes → tie.After-read-kind
+institutes-read c = c .before .before .before .before
 
-abbrev rows-read : tie.After-read-kind3 → tie.After-read-kind2
-rows-read c = c .before .before .before .before .before .before .before
+abbrev institutes-lawful : tie.After-read-kind2 → tie.After-institutes
+institutes-lawful c = c .before .before .before
+
+abbrev rows-read : tie.After-rows → tie.After-read-kind2
+rows-read c = c .before .before .before .before
+
+abbrev rows-lawful : tie.After-read-kind3 → tie.After-rows
+rows-lawful c = c .before .before .before
 
 abbrev lists-read : tie.After-known-told3 → tie.After-read-kind3
 lists-read c = c .before .before .before .before .before
@@ -87,7 +93,7 @@ same-length-7 c = search needs
 
 returns-4 : tie.Need-returns-4
 returns-4 c =
-    let fits = begun (institutes-read (rows-read (lists-read (c .before)))) .pre .1 .1 in
+    let fits = begun (institutes-read (institutes-lawful (rows-read (rows-lawful (lists-read (c .before)))))) .pre .1 .1 in
     search (rest-read, fits .0, fits .1, same-length-6 c, same-length-7 c)
 
 same-length-8 : tie.Need-same-length-8
