@@ -25,6 +25,15 @@ pub fn needed(file: &[u8]) -> Option<Lengths> {
     })
 }
 
+/// Both areas, of just the lengths that the round of a lawful file needs.
+pub fn areas(random: &mut Random, file: &[u8]) -> (Area, Area) {
+    let least = needed(file).expect("a lawful file");
+    (
+        Area::new(random, least.answer),
+        Area::new(random, least.work),
+    )
+}
+
 /// Lengths for a call: what the round needs or somewhat more, and any where the file is refused.
 pub fn some_lengths(random: &mut Random, file: &[u8]) -> Lengths {
     let any = [0, 40, ANSWER_MOST, WORK_MOST];

@@ -3,12 +3,13 @@
 use crate::area::Area;
 use crate::difference::{area_text, hex, Difference};
 use crate::probe;
+use crate::some_steps::{some_count, some_list};
 use crate::tally::Came;
 use second::choice::{Document, Offer, Rule};
 use second::form::Form;
 use second::random::Random;
-use second::reading::{Candidate, Institute, Round, OBC, OPEN};
-use second::writing;
+use second::reading::{read, Candidate, Round, OBC, OPEN};
+use second::writing::{candidate, head, merit, record, step_list, two_bytes};
 
 /// Sets of offers, by the bits of their codes, that the places of a case draw from: at most one offer each, then also the open
 /// entry with that of the own category, then with bits that stand for no category.
@@ -25,9 +26,9 @@ const OFFERS: [&[u8]; 10] = [
     &[32, 33, 72, 137, 228],
 ];
 
-/// An institute with at each merit place the marks and the offers of the candidate there.
+/// The body of an institute's record, with at each merit place the marks and the offers of the candidate there.
 pub struct Case {
-    pub institute: Institute,
+    pub body: Vec<u8>,
     pub types: usize,
     pub policy: usize,
     pub marks: Vec<u8>,
@@ -48,7 +49,27 @@ impl Case {
         let most = random
             .pick(&[1, 3, places / 8 + 1, places / 4 + 1, 204])
             .min(204);
-        let institute = some_institute(random, types, most);
+        let body = body(&some_institute(random, types, most));
+        Case::with_body(random, body, types, policy, places)
+    }
+
+    /// A made case of so many places whose institute has a list of steps.
+    pub fn of_steps(random: &mut Random, places: usize) -> Self {
+        let types = random.from_to(0, 8);
+        let most = random.pick(&[1, 5, places / 2 + 1, places + 1, 2 * places + 1]);
+        let (count, positions) = (some_count(random), random.from_to(0, most.min(1_024)));
+        let body = step_list(&some_list(random, types, count, positions)).split_off(4);
+        Case::with_body(random, body, types, 2, places)
+    }
+
+    /// A case with this body and some marks and offers at so many places.
+    fn with_body(
+        random: &mut Random,
+        body: Vec<u8>,
+        types: usize,
+        policy: usize,
+        places: usize,
+    ) -> Self {
         let thin = random.from_to(0, 2);
         let near = random.one_in(3);
         let marks = (0..places)
@@ -57,7 +78,7 @@ impl Case {
         let sets = random.pick(&OFFERS);
         let offers = (0..places).map(|_| random.pick(sets)).collect();
         Case {
-            institute,
+            body,
             types,
             policy,
             marks,
@@ -71,9 +92,9 @@ impl Case {
         let mut institute = some_institute(random, types, 0);
         for category in [usize::from(OPEN), usize::from(OBC)] {
             let positions = random.from_to(1, places + 1);
-            institute.positions[category] = positions;
+            institute[category][0] = positions;
             for _ in 0..positions {
-                institute.reserved[category][random.from_to(0, types - 1)] += 1;
+                institute[category][random.from_to(1, types)] += 1;
             }
         }
         let thin = random.from_to(0, 1);
@@ -82,7 +103,7 @@ impl Case {
             .collect();
         let offers = (0..places).map(|_| random.pick(&[1, 1, 8, 9])).collect();
         Case {
-            institute,
+            body: body(&institute),
             types,
             policy: random.from_to(0, 1),
             marks,
@@ -99,30 +120,32 @@ impl Case {
         self
     }
 
-    /// The body of the institute's record.
-    pub fn body(&self) -> Vec<u8> {
-        writing::institute(&self.institute).split_off(4)
+    /// The round with this one institute, its merit list in file order; where there is no place, one candidate who is absent from it.
+    fn round(&self) -> Round {
+        let places = self.marks.len();
+        let nobody = Candidate {
+            code: OPEN,
+            marks: 0,
+            row: Vec::new(),
+        };
+        let n = places.max(1);
+        let kind = if self.policy == 2 { 7 } else { 2 };
+        let file = [
+            head(Form::Narrow, n, 1, self.types, self.policy),
+            record(kind, &self.body),
+            candidate(Form::Narrow, &nobody).repeat(n),
+            merit(&(0..places).collect::<Vec<_>>()),
+        ];
+        let mut round = read(&file.concat()).expect("a lawful round");
+        for (one, &marks) in round.candidates.iter_mut().zip(&self.marks) {
+            one.marks = marks;
+        }
+        round
     }
 
-    /// What the second program chooses, on a round with this one institute and its merit list in file order.
+    /// What the second program chooses.
     pub fn due(&self) -> Due {
-        let candidates: Vec<Candidate> = self
-            .marks
-            .iter()
-            .map(|&marks| Candidate {
-                code: OPEN,
-                marks,
-                row: Vec::new(),
-            })
-            .collect();
-        let round = Round {
-            form: Form::Narrow,
-            types: self.types,
-            policy: self.policy as u16,
-            institutes: vec![self.institute.clone()],
-            merit: vec![(0..candidates.len()).collect()],
-            candidates,
-        };
+        let round = self.round();
         let offers: Vec<Offer> = (0..self.offers.len())
             .flat_map(|candidate| {
                 (0..5).map(move |category| Offer {
@@ -146,23 +169,25 @@ impl Case {
     }
 }
 
-/// An institute with at most so many positions in each category, a random part of them reserved.
-fn some_institute(random: &mut Random, types: usize, most: usize) -> Institute {
-    let mut institute = Institute {
-        positions: [0; 5],
-        reserved: std::array::from_fn(|_| vec![0; types]),
-    };
-    for category in 0..5 {
+/// For each category code the positions of an institute, at most so many, and behind them those reserved for each type, a random part of them.
+fn some_institute(random: &mut Random, types: usize, most: usize) -> Vec<Vec<usize>> {
+    let mut institute = vec![vec![0; 1 + types]; 5];
+    for numbers in &mut institute {
         let positions = random.from_to(0, most);
-        institute.positions[category] = positions;
+        numbers[0] = positions;
         let kinds = random.from_to(0, types);
         if kinds > 0 {
             for _ in 0..random.from_to(positions / 2, positions) {
-                institute.reserved[category][random.from_to(0, kinds - 1)] += 1;
+                numbers[random.from_to(1, kinds)] += 1;
             }
         }
     }
     institute
+}
+
+/// The body of the record of such an institute.
+fn body(institute: &[Vec<usize>]) -> Vec<u8> {
+    two_bytes(&institute.concat())
 }
 
 /// Marks of lawful types: thinner ones, or two neighbouring types, so that one move makes another.
@@ -184,9 +209,8 @@ pub fn compare(random: &mut Random, case: &Case) -> (Came, Option<Difference>) {
     let mut steps = Area::new(random, case.offers.len());
     let mut types = Area::new(random, case.offers.len());
     let (mut due_steps, mut due_types) = (steps.clone(), types.clone());
-    let body = case.body();
     probe::choose(
-        &body,
+        &case.body,
         case.types,
         case.policy,
         &case.marks,
@@ -216,7 +240,7 @@ pub fn compare(random: &mut Random, case: &Case) -> (Came, Option<Difference>) {
             case.policy,
             case.offers.len()
         ),
-        input: [body, case.marks.clone(), case.offers.clone()].concat(),
+        input: [&case.body[..], &case.marks, &case.offers].concat(),
         list: None,
         unit: both(&steps, &types, (&due_steps, &due_types)),
         second: both(&due_steps, &due_types, (&steps, &types)),

@@ -2,13 +2,14 @@
 
 use crate::call::{self, needed, some_lengths, Lengths};
 use crate::choice::{self, Case};
-use crate::files::{at_edges, cut_and_extended, in_form, named, one_byte_changed, Made, A};
+use crate::files::{a, at_edges, cut_and_extended, in_sort, one_byte_changed, Made};
 use crate::plan;
-use crate::tally::Tally;
+use crate::sort::Sort;
+use crate::tally::{Came, Tally};
 use crate::verdict;
-use second::form::Form;
 use second::orders::Order;
 use second::random::Random;
+use second::reading::read;
 use std::path::Path;
 
 /// What all classes are run with.
@@ -60,11 +61,12 @@ impl Run {
         self.calls("rounds", files.len(), files.into_iter())
     }
 
-    /// The files at the edge of each question in a form.
-    pub fn boundary(&self, form: Form) -> Tally {
-        let files = at_edges(form);
-        let name = named(form, "boundary");
-        self.calls(&name, files.len(), files.into_iter())
+    /// The files at the edge of each question in a sort.
+    pub fn boundary(&self, sort: Sort) -> Tally {
+        let files = at_edges(sort);
+        let name = sort.named("boundary");
+        let tally = self.calls(&name, files.len(), files.into_iter());
+        tally.with(plan::of_steps(sort))
     }
 
     /// Made files of a class.
@@ -99,37 +101,39 @@ impl Run {
         self.called(name, count, self.made_for(name, made, count))
     }
 
-    /// Every other value at every byte of file A in a form.
-    pub fn changed(&self, form: Form) -> Tally {
-        let a = in_form(form, A);
-        let name = named(form, "a, one byte changed");
-        self.calls(&name, 255 * a.len(), one_byte_changed(&a))
+    /// Every other value at every byte of file A in a sort.
+    pub fn changed(&self, sort: Sort) -> Tally {
+        let a = a(sort);
+        let name = sort.named("a, one byte changed");
+        let tally = self.calls(&name, 255 * a.len(), one_byte_changed(&a));
+        tally.with(plan::of_steps(sort))
     }
 
-    /// File A in a form cut and extended.
-    pub fn cut(&self, form: Form) -> Tally {
-        let files = cut_and_extended(form);
-        let name = named(form, "a, cut and extended");
+    /// File A in a sort cut and extended.
+    pub fn cut(&self, sort: Sort) -> Tally {
+        let files = cut_and_extended(sort);
+        let name = sort.named("a, cut and extended");
         self.calls(&name, files.len(), files.into_iter())
     }
 
-    /// Areas of lengths around each bound and answer areas that lack one, two or three bytes for each candidate, on lawful files of a form and on refused ones.
-    pub fn lengths(&self, form: Form, folder: &Path) -> Tally {
-        let name = named(form, "area lengths");
+    /// Areas of lengths around each bound and answer areas that lack one, two or three bytes for each candidate, or those of six closing places where twelve are due, on lawful files of a sort and on refused ones.
+    pub fn lengths(&self, sort: Sort, folder: &Path) -> Tally {
+        let name = sort.named("area lengths");
         let mut random = self.random(&name);
-        let mut files = worked_in(form, folder);
-        for (made, count) in plan::area_lengths(form, self.long) {
+        let mut files = worked_in(sort, folder);
+        for (made, count) in plan::area_lengths(sort, self.long) {
             files.extend(self.made(made, count));
         }
-        let mut tally = Tally::new(&name, files.len() * 70, self.long);
+        let mut tally = Tally::new(&name, files.len() * 70, self.long).with(&[Came::Refused(14)]);
         for file in files {
             let least = needed(&file).unwrap_or(Lengths {
                 answer: 21,
                 work: 24,
             });
             let lacking = [1, 2, 3].map(|bytes| least.answer - bytes * least.work / 8);
-            let answers = around(&mut random, least.answer);
-            for answer in answers.into_iter().chain(lacking) {
+            let places = six_places(sort, &file, least.answer);
+            let answers = around(&mut random, least.answer).into_iter();
+            for answer in answers.chain(lacking).chain(places) {
                 for work in around(&mut random, least.work) {
                     let lengths = Lengths { answer, work };
                     let (came, difference) = call::compare(&mut random, &file, lengths);
@@ -140,12 +144,12 @@ impl Run {
         tally
     }
 
-    /// Areas of every length up to past what it needs for file A in a form.
-    pub fn every_length(&self, form: Form) -> Tally {
-        let name = named(form, "a, every area length");
+    /// Areas of every length up to past what it needs for file A in a sort.
+    pub fn every_length(&self, sort: Sort) -> Tally {
+        let name = sort.named("a, every area length");
         let mut random = self.random(&name);
         let mut tally = Tally::new(&name, 0, self.long);
-        let file = in_form(form, A);
+        let file = a(sort);
         let Some(least) = needed(&file) else {
             return tally;
         };
@@ -159,19 +163,20 @@ impl Run {
         tally
     }
 
-    /// Verdicts on damaged and lawful files of a form.
-    pub fn verdicts(&self, form: Form, folder: &Path) -> Tally {
-        let classes = plan::verdicts(form, self.long);
+    /// Verdicts on damaged and lawful files of a sort.
+    pub fn verdicts(&self, sort: Sort, folder: &Path) -> Tally {
+        let classes = plan::verdicts(sort, self.long);
         let count = classes.iter().map(|(_, count)| count).sum();
-        let mut tally = Tally::new(&named(form, "verdict"), count, self.long);
+        let mut tally =
+            Tally::new(&sort.named("verdict"), count, self.long).with(plan::of_steps(sort));
         let made = classes
             .into_iter()
             .flat_map(|(made, count)| self.made(made, count));
-        for file in worked_in(form, folder)
+        for file in worked_in(sort, folder)
             .into_iter()
-            .chain(at_edges(form))
-            .chain(cut_and_extended(form))
-            .chain(one_byte_changed(&in_form(form, A)))
+            .chain(at_edges(sort))
+            .chain(cut_and_extended(sort))
+            .chain(one_byte_changed(&a(sort)))
             .chain(made)
         {
             let (came, difference) = verdict::compare(&file);
@@ -183,6 +188,11 @@ impl Run {
     /// Choices of one institute from the least to the most places.
     pub fn choices(&self, name: &str, places: (usize, usize), count: usize) -> Tally {
         self.chosen(name, places, count, Case::made)
+    }
+
+    /// Choices of one institute by a list of steps, from the least to the most places.
+    pub fn choices_by_steps(&self, name: &str, places: (usize, usize), count: usize) -> Tally {
+        self.chosen(name, places, count, Case::of_steps)
     }
 
     /// Choices of cases that are made in a way, from the least to the most places.
@@ -230,10 +240,16 @@ pub fn around(random: &mut Random, bound: usize) -> [usize; 7] {
     ]
 }
 
-/// The round files of a folder, by name, in a form; those that are wide stay so.
-pub fn worked_in(form: Form, folder: &Path) -> Vec<Vec<u8>> {
+/// The length of an answer area that has room for six closing places only, where twelve are due.
+fn six_places(sort: Sort, file: &[u8], least: usize) -> Option<usize> {
+    let round = read(file).ok().filter(|_| sort.own_steps)?;
+    Some(least - 12 * round.institutes.len())
+}
+
+/// The round files of a folder, by name, in a sort; those that are wide, or have lists of steps, stay so.
+pub fn worked_in(sort: Sort, folder: &Path) -> Vec<Vec<u8>> {
     let files = worked(folder).into_iter();
-    files.map(|file| in_form(form, &file)).collect()
+    files.map(|file| in_sort(sort, &file)).collect()
 }
 
 /// The round files of a folder, by name.

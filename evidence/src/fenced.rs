@@ -8,10 +8,10 @@ use crate::fence::{Fence, Side};
 use crate::files::{at_edges, cut_and_extended};
 use crate::plan;
 use crate::probe;
+use crate::sort::Sort;
 use crate::tally::{Came, Tally};
 use crate::telling::Told;
 use second::answer::{call_on, Outcome};
-use second::form::Form;
 use second::reading::read;
 use std::io::{self, Write};
 use std::path::Path;
@@ -20,15 +20,15 @@ use tazbilk::{Answer, Refusal, ANSWER_MOST};
 /// The name of the class.
 pub const NAME: &str = "fenced";
 
-/// The files called on, of both forms.
+/// The files called on, of all sorts.
 fn files(run: &Run, folder: &Path) -> Vec<Vec<u8>> {
     let mut files = Vec::new();
     let mut random = run.random(NAME);
-    for form in Form::BOTH {
-        files.extend(worked_in(form, folder));
-        files.extend(at_edges(form));
-        files.extend(cut_and_extended(form).into_iter().take(400));
-        for (made, count) in plan::fenced(form, run.long) {
+    for sort in Sort::ALL {
+        files.extend(worked_in(sort, folder));
+        files.extend(at_edges(sort));
+        files.extend(cut_and_extended(sort).into_iter().take(400));
+        for (made, count) in plan::fenced(sort, run.long) {
             files.extend((0..count).map(|_| made.file(random.bits())));
         }
     }
@@ -84,10 +84,13 @@ fn choices(run: &Run, random: &mut second::random::Random) -> io::Result<()> {
     let (mut of_offers, mut of_steps, mut of_types) = (fence()?, fence()?, fence()?);
     for _ in 0..if run.long { 20_000 } else { 2_000 } {
         let places = random.from_to(0, 40);
-        let case = Case::made(random, places);
+        let case = match random.one_in(2) {
+            true => Case::made(random, places),
+            false => Case::of_steps(random, places),
+        };
         let due = case.due();
         for side in [Side::Before, Side::Behind] {
-            let body = of_body.lend_to_read(&case.body(), side);
+            let body = of_body.lend_to_read(&case.body, side);
             let marks = of_marks.lend_to_read(&case.marks, side);
             let offers = of_offers.lend_to_read(&case.offers, side);
             let steps = of_steps.lend(&vec![9; places], side);

@@ -3,14 +3,14 @@
 use crate::classes::Run;
 use crate::difference::Difference;
 use crate::fence::{Fence, Side};
-use crate::files::in_form;
+use crate::files::in_sort;
 use crate::lists::{own, Listed};
 use crate::plan;
 use crate::review::{came, judgement_of};
 use crate::reviews::{some_list, some_work, worked_lists};
+use crate::sort::Sort;
 use crate::tally::{Came, Tally};
 use crate::telling::Told;
-use second::form::Form;
 use second::random::Random;
 use second::reading::read;
 use second::review::review;
@@ -27,13 +27,13 @@ struct Case {
     work: usize,
 }
 
-/// The cases reviewed, of both forms: the worked lists, the unit's own cut at every length and with a byte more, and lists of all classes.
+/// The cases reviewed, of all sorts: the worked lists, the unit's own cut at every length and with a byte more, and lists of all classes.
 fn cases(run: &Run, folder: &Path) -> Vec<Case> {
     let mut random = run.random(NAME);
     let mut cases = Vec::new();
     for one in worked_lists(folder) {
-        for form in Form::BOTH {
-            let file = in_form(form, &one.file);
+        for sort in Sort::ALL {
+            let file = in_sort(sort, &one.file);
             let whole = [own(&file), vec![0]].concat();
             cases.extend((0..=whole.len()).map(|len| Case {
                 file: file.clone(),
@@ -47,9 +47,9 @@ fn cases(run: &Run, folder: &Path) -> Vec<Case> {
             list: one.list,
         });
     }
-    for form in Form::BOTH {
-        for (made, count) in plan::fenced_lists(form, run.long) {
-            for listed in Listed::all(form).into_iter().cycle().take(count) {
+    for sort in Sort::ALL {
+        for (made, count) in plan::fenced_lists(sort, run.long) {
+            for listed in Listed::all(sort).into_iter().cycle().take(count) {
                 let file = made.file(random.bits());
                 cases.push(made_case(&mut random, listed, file));
             }

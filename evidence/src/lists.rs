@@ -1,5 +1,7 @@
 //! Lists to review, each made for a round file.
 
+use crate::numbered::Numbered;
+use crate::sort::Sort;
 use crate::tally::Came;
 use second::choice::{Document, Offer, Rule};
 use second::form::Form;
@@ -7,6 +9,7 @@ use second::list::{listed, said};
 use second::random::Random;
 use second::reading::{Entry, Round, OPEN};
 use second::review::list_bytes;
+use second::steps::MOST_STEPS;
 use tazbilk::{allot, Answer, Judgement, ANSWER_MOST, WORK_MOST};
 
 /// A class of lists.
@@ -28,6 +31,10 @@ pub enum Listed {
     Random,
     /// Under policy 0, given ones with step 6 for one to three open entries.
     Six,
+    /// With lists of steps, the unit's own with one to three steps that the institute does not list.
+    Unlisted,
+    /// With lists of steps, the unit's own with one to three steps changed to others of the same category.
+    Same,
     /// Of the wide form, the unit's own with one to three last bytes changed, also those of 0 0.
     Last,
     /// Of the wide form, the unit's own with one to three institutes 256 numbers or more on or back.
@@ -35,8 +42,8 @@ pub enum Listed {
 }
 
 impl Listed {
-    /// The classes of both forms.
-    pub const BOTH: [Listed; 8] = [
+    /// The classes of all sorts.
+    pub const EVERYWHERE: [Listed; 7] = [
         Listed::Own,
         Listed::Seats,
         Listed::Steps,
@@ -44,16 +51,19 @@ impl Listed {
         Listed::Rows,
         Listed::Given,
         Listed::Random,
-        Listed::Six,
     ];
 
-    /// All classes of a form.
-    pub fn all(form: Form) -> Vec<Listed> {
-        let more: &[Listed] = match form {
+    /// All classes of a sort.
+    pub fn all(sort: Sort) -> Vec<Listed> {
+        let of_steps: &[Listed] = match sort.own_steps {
+            false => &[Listed::Six],
+            true => &[Listed::Unlisted, Listed::Same],
+        };
+        let of_form: &[Listed] = match sort.form {
             Form::Narrow => &[],
             Form::Wide => &[Listed::Last, Listed::Apart],
         };
-        [&Listed::BOTH, more].concat()
+        [&Listed::EVERYWHERE, of_steps, of_form].concat()
     }
 
     /// What some lists of the class come to.
@@ -63,7 +73,7 @@ impl Listed {
             Listed::Seats | Listed::Rows => &[Came::Accepted, Came::Seat, Came::Entry],
             Listed::Given => &[Came::Accepted, Came::Entry],
             Listed::Steps | Listed::Bytes | Listed::Random | Listed::Six => &[Came::Seat],
-            Listed::Last | Listed::Apart => &[Came::Seat],
+            Listed::Unlisted | Listed::Same | Listed::Last | Listed::Apart => &[Came::Seat],
         }
     }
 
@@ -78,6 +88,8 @@ impl Listed {
             Listed::Given => "review, given",
             Listed::Random => "review, random",
             Listed::Six => "review, 6 of policy 0",
+            Listed::Unlisted => "review, unlisted steps",
+            Listed::Same => "review, same category",
             Listed::Last => "review, last bytes",
             Listed::Apart => "review, 256 apart",
         }
@@ -93,17 +105,18 @@ impl Listed {
 
     /// A list for a round that was read from a file.
     pub fn list(self, random: &mut Random, round: &Round, file: &[u8]) -> Vec<u8> {
-        let n = round.candidates.len();
+        let (n, steps) = (round.candidates.len(), &Numbered::of(round));
+        let step_at = round.form.institute_bytes();
         match self {
             Listed::Own => own(file),
             Listed::Seats => changed(random, file, |random, list| {
                 let candidate = random.from_to(0, n - 1);
-                let seat = some_seat(random, round, candidate);
+                let seat = some_seat(random, round, steps, candidate);
                 put(round.form, list, candidate, &seat);
             }),
             Listed::Steps => changed(random, file, |random, list| {
                 if let Some(seat) = some_seated(random, round.form, list) {
-                    seat[round.form.institute_bytes()] = some_step(random);
+                    seat[step_at] = some_step(random, steps.count(round.form.institute(seat)));
                 }
             }),
             Listed::Bytes => changed(random, file, |random, list| {
@@ -113,20 +126,35 @@ impl Listed {
             }),
             Listed::Rows => {
                 let wrong = random.pick(&[3, 30, 300, 3_000]);
-                of_rows(random, round, wrong)
+                of_rows(random, round, steps, wrong)
             }
             Listed::Given => {
-                let mut list = of_rows(random, round, usize::MAX);
+                let mut list = of_rows(random, round, steps, usize::MAX);
                 for institute in 0..round.institutes.len() {
                     settle(round, &mut list, institute, None);
                 }
                 list
             }
-            Listed::Random => at_random(random, round),
+            Listed::Random => at_random(random, round, steps),
             Listed::Six => {
                 let given = Listed::Given.list(random, round, file);
                 six(random, round, given)
             }
+            Listed::Unlisted => changed(random, file, |random, list| {
+                if let Some(seat) = some_seated(random, round.form, list) {
+                    let count = steps.count(round.form.institute(seat));
+                    let any = random.from_to(count + 1, 255);
+                    seat[step_at] = random.pick(&[count + 1, MOST_STEPS + 1, any]) as u8;
+                }
+            }),
+            Listed::Same => changed(random, file, |random, list| {
+                if let Some(seat) = some_seated(random, round.form, list) {
+                    let others = steps.like(round.form.institute(seat), seat[step_at]);
+                    if !others.is_empty() {
+                        seat[step_at] = random.pick(&others);
+                    }
+                }
+            }),
             Listed::Last => changed(random, file, |random, list| {
                 let width = round.form.seat_bytes();
                 let last = width * random.from_to(1, n) - 1;
@@ -202,37 +230,39 @@ fn some_seated<'a>(random: &mut Random, form: Form, list: &'a mut [u8]) -> Optio
     Some(&mut list[found..found + width])
 }
 
-/// A seat that stands for an entry.
-fn seat_of(random: &mut Random, form: Form, entry: Entry) -> Vec<u8> {
-    let step = match entry.category {
-        OPEN => random.pick(&[1, 1, 1, 6]),
-        category => category + 1,
+/// A seat that stands for an entry, most often at the first step of its category; at step 1 where no step has it.
+fn seat_of(random: &mut Random, form: Form, steps: &Numbered, entry: Entry) -> Vec<u8> {
+    let step = match steps.of_entry(entry)[..] {
+        [] => 1,
+        [only] => only,
+        [first, ref others @ ..] => random.pick(&[&[first; 3], others].concat()),
     };
     pair(form, entry.institute + 1, step)
 }
 
-/// A step, most often one that there is.
-fn some_step(random: &mut Random) -> u8 {
-    let (step, any) = (random.from_to(1, 6), random.bits() as usize);
-    random.pick(&[step, step, step, step, step, any, 0, 7]) as u8
+/// A step, most often one of so many that there are.
+fn some_step(random: &mut Random, count: usize) -> u8 {
+    let (step, any) = (random.from_to(1, count), random.bits() as usize);
+    random.pick(&[step, step, step, step, step, any, 0, count + 1]) as u8
 }
 
 /// A seat that stands for an entry of the row, another one, none, or what is no seat.
-fn some_seat(random: &mut Random, round: &Round, candidate: usize) -> Vec<u8> {
+fn some_seat(random: &mut Random, round: &Round, steps: &Numbered, candidate: usize) -> Vec<u8> {
     let (form, row) = (round.form, &round.candidates[candidate].row);
     let institute = random.from_to(1, round.institutes.len());
+    let count = steps.count(institute);
     match random.from_to(0, 9) {
         0..=4 if !row.is_empty() => {
             let entry = random.pick(row);
-            seat_of(random, form, entry)
+            seat_of(random, form, steps, entry)
         }
-        5..=6 => pair(form, institute, random.from_to(1, 6) as u8),
+        5..=6 => pair(form, institute, random.from_to(1, count) as u8),
         7 => {
             let more = round.institutes.len() + 1;
             let no_seats = [
                 (0, 1),
                 (institute, 0),
-                (institute, 7),
+                (institute, count as u8 + 1),
                 (more, 1),
                 (65_535, 255),
             ];
@@ -244,7 +274,7 @@ fn some_seat(random: &mut Random, round: &Round, candidate: usize) -> Vec<u8> {
 }
 
 /// A list of entries of the rows, in one of so many cases with another step; some have no seat.
-fn of_rows(random: &mut Random, round: &Round, wrong: usize) -> Vec<u8> {
+fn of_rows(random: &mut Random, round: &Round, steps: &Numbered, wrong: usize) -> Vec<u8> {
     let none = random.pick(&[2, 4, 1_000]);
     let mut list = vec![0; list_bytes(round)];
     for (candidate, own) in round.candidates.iter().enumerate() {
@@ -252,9 +282,10 @@ fn of_rows(random: &mut Random, round: &Round, wrong: usize) -> Vec<u8> {
             continue;
         }
         let entry = random.pick(&own.row);
-        let mut seat = seat_of(random, round.form, entry);
+        let mut seat = seat_of(random, round.form, steps, entry);
         if random.one_in(wrong) {
-            seat[round.form.institute_bytes()] = some_step(random);
+            let count = steps.count(entry.institute + 1);
+            seat[round.form.institute_bytes()] = some_step(random, count);
         }
         put(round.form, &mut list, candidate, &seat);
     }
@@ -262,7 +293,7 @@ fn of_rows(random: &mut Random, round: &Round, wrong: usize) -> Vec<u8> {
 }
 
 /// A list of institutes and steps up to one too many, of any bytes, or with few seats.
-fn at_random(random: &mut Random, round: &Round) -> Vec<u8> {
+fn at_random(random: &mut Random, round: &Round, steps: &Numbered) -> Vec<u8> {
     let (institutes, sparse) = (round.institutes.len(), random.pick(&[1, 1, 8, 64]));
     let all = random.one_in(4);
     let mut list = vec![0; list_bytes(round)];
@@ -272,7 +303,7 @@ fn at_random(random: &mut Random, round: &Round) -> Vec<u8> {
             seat.copy_from_slice(&bytes[..seat.len()]);
         } else if random.one_in(sparse) {
             let institute = random.from_to(0, institutes + 1);
-            let step = random.from_to(0, 7) as u8;
+            let step = random.from_to(0, steps.count(institute) + 1) as u8;
             seat.copy_from_slice(&pair(round.form, institute, step));
         }
     }
@@ -336,9 +367,12 @@ pub fn mend(round: &Round, list: &mut [u8], found: &Judgement) -> bool {
 }
 
 /// What is listed for one candidate in every list of a round: institutes and steps up to one too many, and in the wide form also no seat and seats with another last byte or the institute's high byte changed.
-fn every_pair(round: &Round) -> Vec<Vec<u8>> {
+fn every_pair(round: &Round, steps: &Numbered) -> Vec<Vec<u8>> {
     let mut pairs: Vec<Vec<u8>> = (0..round.institutes.len() + 2)
-        .flat_map(|institute| (0..8).map(move |step| (institute, step)))
+        .flat_map(|institute| {
+            let past = steps.count(institute) as u8 + 2;
+            (0..past).map(move |step| (institute, step))
+        })
         .map(|(institute, step)| pair(round.form, institute, step))
         .collect();
     if round.form == Form::Wide {
@@ -347,10 +381,17 @@ fn every_pair(round: &Round) -> Vec<Vec<u8>> {
     pairs
 }
 
-/// Every list of a round over such pairs.
+/// As many lists of a round are made at most.
+const EVERY_MOST: usize = 40_000;
+
+/// Every list of a round over such pairs; none where they are too many.
 pub fn every(round: &Round) -> impl Iterator<Item = Vec<u8>> {
-    let (n, pairs) = (round.candidates.len(), every_pair(round));
-    (0..pairs.len().pow(n as u32)).map(move |mut number| {
+    let (n, pairs) = (
+        round.candidates.len(),
+        every_pair(round, &Numbered::of(round)),
+    );
+    let all = pairs.len().pow(n as u32);
+    (0..if all <= EVERY_MOST { all } else { 0 }).map(move |mut number| {
         let mut list = Vec::new();
         for _ in 0..n {
             list.extend(&pairs[number % pairs.len()]);

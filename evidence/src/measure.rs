@@ -45,6 +45,9 @@ pub fn classes() -> Vec<(String, Made, Vec<u64>)> {
         ("types, apart".to_string(), Made::Types(512), vec![0]),
         ("types, in vain".to_string(), Made::Types(512), vec![1]),
         named(Class::WideMaximal, (1..=2).collect()),
+        named(Class::StepsMid, (1..=10).collect()),
+        named(Class::StepsMaximal, (1..=4).collect()),
+        named(Class::WideStepsMaximal, (1..=2).collect()),
     ]
 }
 
@@ -77,6 +80,8 @@ pub fn reviews() -> Vec<(String, Made, Vec<u64>)> {
                 "worst, behind",
                 "types, apart",
                 "wide-maximal",
+                "steps-maximal",
+                "wide-steps-maximal",
             ]
             .contains(&name.as_str())
         })

@@ -1,14 +1,17 @@
 //! How many cases of each class are run.
 
 use crate::files::Made;
+use crate::sort::Sort;
+use crate::steps_plan;
+use crate::tally::Came;
 use second::form::Form;
-use second::generate::Class;
+use second::generate::{Class, QUESTIONS, STEPS_QUESTIONS};
 
 /// A class of files with how many of it.
-type Counted = (Made, usize);
+pub type Counted = (Made, usize);
 
 /// The classes with how many of each, in the short or the long form; those that the short form has none of are left out.
-fn counted(long: bool, classes: &[(Made, usize, usize)]) -> Vec<Counted> {
+pub fn counted(long: bool, classes: &[(Made, usize, usize)]) -> Vec<Counted> {
     classes
         .iter()
         .map(|&(made, short, more)| (made, if long { more } else { short }))
@@ -16,18 +19,42 @@ fn counted(long: bool, classes: &[(Made, usize, usize)]) -> Vec<Counted> {
         .collect()
 }
 
-/// The classes made for each refusal, so many of each, and those with two faults and with random bytes changed.
-fn faulty(form: Form, each: usize, two: usize, torn: usize) -> Vec<Counted> {
-    let mut classes: Vec<Counted> = (1..=13)
-        .map(|number| (Made::Refused(form, number), each))
+/// So many times as many of each class.
+pub fn times(times: usize, classes: Vec<Counted>) -> Vec<Counted> {
+    let classes = classes.into_iter();
+    classes.map(|(made, count)| (made, count * times)).collect()
+}
+
+/// The refusals that lists of steps alone can have, where a class of this sort is to have cases of each.
+pub fn of_steps(sort: Sort) -> &'static [Came] {
+    match sort.own_steps {
+        true => &[Came::Refused(17), Came::Refused(18)],
+        false => &[],
+    }
+}
+
+/// The classes made for each refusal, so many of each, and those with several faults and with random bytes changed.
+pub fn faulty(sort: Sort, each: usize, several: usize, torn: usize) -> Vec<Counted> {
+    let numbers: &[u8] = match sort.own_steps {
+        true => &STEPS_QUESTIONS,
+        false => &QUESTIONS,
+    };
+    let mut classes: Vec<Counted> = (numbers.iter())
+        .map(|&number| (Made::Refused(sort, number), each))
         .collect();
-    classes.push((Made::TwoFaults(form), two));
-    classes.push((Made::Torn(form), torn));
+    classes.push((Made::TwoFaults(sort), several));
+    if sort.own_steps {
+        classes.push((Made::Faults(sort.form), several));
+    }
+    classes.push((Made::Torn(sort), torn));
     classes
 }
 
 /// The classes of lawful files; the short form has none of the slowest.
-pub fn lawful(form: Form, long: bool) -> Vec<Counted> {
+pub fn lawful(sort: Sort, long: bool) -> Vec<Counted> {
+    if sort.own_steps {
+        return steps_plan::lawful(sort.form, long);
+    }
     let narrow = [
         (Made::Lawful(Class::Tiny), 20_000, 60_000),
         (Made::Lawful(Class::Small), 8_000, 30_000),
@@ -48,7 +75,7 @@ pub fn lawful(form: Form, long: bool) -> Vec<Counted> {
         (Made::Types(16), 3_000, 30_000),
         (Made::Types(32), 1_000, 10_000),
         (Made::Types(64), 200, 2_000),
-        (Made::Types(512), 2, 20),
+        (Made::Types(512), 1, 20),
     ];
     let wide = [
         (Made::Lawful(Class::WideTiny), 6_000, 60_000),
@@ -59,26 +86,29 @@ pub fn lawful(form: Form, long: bool) -> Vec<Counted> {
         (Made::Lawful(Class::WideMaximal), 2, 40),
         (Made::Lawful(Class::WideContested), 1, 12),
     ];
-    match form {
+    match sort.form {
         Form::Narrow => counted(long, &narrow),
         Form::Wide => counted(long, &wide),
     }
 }
 
 /// The classes of lawful files on which the second program goes in other orders, the six orders in turn.
-pub fn orders(form: Form, long: bool) -> Vec<Counted> {
+pub fn orders(sort: Sort, long: bool) -> Vec<Counted> {
+    if sort.own_steps {
+        return steps_plan::orders(sort.form, long);
+    }
     let narrow = [
         (Made::Lawful(Class::Tiny), 12_000, 60_000),
         (Made::Lawful(Class::Small), 6_000, 30_000),
-        (Made::Lawful(Class::Mid), 900, 6_000),
-        (Made::Mixed, 300, 3_000),
+        (Made::Lawful(Class::Mid), 600, 6_000),
+        (Made::Mixed, 240, 3_000),
         (Made::Broad, 300, 3_000),
         (Made::Contested(64), 240, 1_200),
         (Made::Contested(128), 60, 180),
         (Made::Contested(256), 12, 36),
-        (Made::Lawful(Class::Maximal), 60, 240),
+        (Made::Lawful(Class::Maximal), 18, 240),
         (Made::Lawful(Class::Contested), 6, 36),
-        (Made::Lawful(Class::Crowded), 12, 48),
+        (Made::Lawful(Class::Crowded), 6, 48),
         (Made::Worst(128), 24, 120),
         (Made::Worst(256), 0, 18),
         (Made::Types(16), 1_200, 12_000),
@@ -94,26 +124,31 @@ pub fn orders(form: Form, long: bool) -> Vec<Counted> {
         (Made::Lawful(Class::WideMaximal), 0, 12),
         (Made::Lawful(Class::WideContested), 0, 6),
     ];
-    match form {
+    match sort.form {
         Form::Narrow => counted(long, &narrow),
         Form::Wide => counted(long, &wide),
     }
 }
 
 /// The classes of damaged files.
-pub fn damaged(form: Form, long: bool) -> Vec<Counted> {
-    match (form, long) {
-        (Form::Narrow, false) => faulty(form, 3_000, 6_000, 10_000),
-        (Form::Narrow, true) => faulty(form, 40_000, 180_000, 300_000),
-        (Form::Wide, false) => faulty(form, 800, 3_000, 5_000),
-        (Form::Wide, true) => faulty(form, 20_000, 90_000, 150_000),
+pub fn damaged(sort: Sort, long: bool) -> Vec<Counted> {
+    if sort.own_steps {
+        return steps_plan::damaged(sort.form, long);
+    }
+    match (sort.form, long) {
+        (Form::Narrow, false) => faulty(sort, 3_000, 6_000, 10_000),
+        (Form::Narrow, true) => faulty(sort, 40_000, 180_000, 300_000),
+        (Form::Wide, false) => faulty(sort, 800, 3_000, 5_000),
+        (Form::Wide, true) => faulty(sort, 20_000, 90_000, 150_000),
     }
 }
 
 /// The classes of files for verdicts.
-pub fn verdicts(form: Form, long: bool) -> Vec<Counted> {
-    let times = if long { 10 } else { 1 };
-    let lawful = match form {
+pub fn verdicts(sort: Sort, long: bool) -> Vec<Counted> {
+    if sort.own_steps {
+        return steps_plan::verdicts(sort.form, long);
+    }
+    let lawful = match sort.form {
         Form::Narrow => vec![
             (Made::Lawful(Class::Tiny), 4_000),
             (Made::Lawful(Class::Small), 2_000),
@@ -130,16 +165,18 @@ pub fn verdicts(form: Form, long: bool) -> Vec<Counted> {
             (Made::Lawful(Class::WideMaximal), 1),
         ],
     };
-    let faulty = match form {
-        Form::Narrow => faulty(form, 2_000, 8_000, 14_000),
-        Form::Wide => faulty(form, 500, 2_000, 4_000),
+    let faulty = match sort.form {
+        Form::Narrow => faulty(sort, 2_000, 8_000, 14_000),
+        Form::Wide => faulty(sort, 500, 2_000, 4_000),
     };
-    let classes = lawful.into_iter().chain(faulty);
-    classes.map(|(made, count)| (made, count * times)).collect()
+    times(if long { 10 } else { 1 }, [lawful, faulty].concat())
 }
 
 /// The classes of lawful files for each class of lists.
-pub fn lists(form: Form, long: bool) -> Vec<Counted> {
+pub fn lists(sort: Sort, long: bool) -> Vec<Counted> {
+    if sort.own_steps {
+        return steps_plan::lists(sort.form, long);
+    }
     let narrow = [
         (Made::Lawful(Class::Tiny), 2_000, 6_000),
         (Made::Lawful(Class::Small), 1_500, 4_000),
@@ -166,14 +203,17 @@ pub fn lists(form: Form, long: bool) -> Vec<Counted> {
         (Made::Lawful(Class::WideMaximal), 0, 4),
         (Made::Lawful(Class::WideContested), 0, 1),
     ];
-    match form {
+    match sort.form {
         Form::Narrow => counted(long, &narrow),
         Form::Wide => counted(long, &wide),
     }
 }
 
 /// The classes of lawful narrow files for each class of lists that is rewritten in the wide form.
-pub fn widened_lists(long: bool) -> Vec<Counted> {
+pub fn widened_lists(sort: Sort, long: bool) -> Vec<Counted> {
+    if sort.own_steps {
+        return steps_plan::widened_lists(long);
+    }
     let classes = [
         (Made::Lawful(Class::Tiny), 600, 6_000),
         (Made::Lawful(Class::Small), 300, 3_000),
@@ -189,11 +229,42 @@ pub fn widened_lists(long: bool) -> Vec<Counted> {
     counted(long, &classes)
 }
 
+/// The classes of lawful files of a form that are rewritten with lists of steps.
+pub fn relisted(form: Form, long: bool) -> Vec<Counted> {
+    let classes = lawful(Sort::by_policy(form), long).into_iter();
+    classes
+        .map(|(made, count)| (made, count.div_ceil(3)))
+        .collect()
+}
+
+/// The classes of lawful files of a form for each class of lists whose files are rewritten with lists of steps.
+pub fn relisted_lists(form: Form, long: bool) -> Vec<Counted> {
+    let narrow = [
+        (Made::Lawful(Class::Tiny), 400, 4_000),
+        (Made::Lawful(Class::Small), 200, 2_000),
+        (Made::Types(16), 60, 600),
+        (Made::Lawful(Class::Mid), 10, 150),
+        (Made::Lawful(Class::Maximal), 1, 6),
+    ];
+    let wide = [
+        (Made::Lawful(Class::WideTiny), 100, 1_500),
+        (Made::Lawful(Class::WideSmall), 50, 700),
+        (Made::Lawful(Class::WideMany), 10, 150),
+    ];
+    match form {
+        Form::Narrow => counted(long, &narrow),
+        Form::Wide => counted(long, &wide),
+    }
+}
+
 /// As many reviews of a list that is mended are made at most.
 pub const MENDED_MOST: usize = 200;
 
 /// The classes of lawful files whose lists are mended.
-pub fn mended(form: Form, long: bool) -> Vec<Counted> {
+pub fn mended(sort: Sort, long: bool) -> Vec<Counted> {
+    if sort.own_steps {
+        return steps_plan::mended(sort.form, long);
+    }
     let narrow = [
         (Made::Lawful(Class::Tiny), 800, 4_800),
         (Made::Lawful(Class::Small), 200, 1_200),
@@ -206,67 +277,79 @@ pub fn mended(form: Form, long: bool) -> Vec<Counted> {
         (Made::Lawful(Class::WideMany), 40, 400),
         (Made::Lawful(Class::WideMid), 1, 12),
     ];
-    match form {
+    match sort.form {
         Form::Narrow => counted(long, &narrow),
         Form::Wide => counted(long, &wide),
     }
 }
 
 /// The classes of damaged files for reviews.
-pub fn damaged_with_lists(form: Form, long: bool) -> Vec<Counted> {
+pub fn damaged_with_lists(sort: Sort, long: bool) -> Vec<Counted> {
+    if sort.own_steps {
+        return steps_plan::damaged_with_lists(sort.form, long);
+    }
     let times = if long { 8 } else { 1 };
-    match form {
-        Form::Narrow => faulty(form, 150 * times, 400 * times, 2_000 * times),
-        Form::Wide => faulty(form, 60 * times, 200 * times, 1_000 * times),
+    match sort.form {
+        Form::Narrow => faulty(sort, 150 * times, 400 * times, 2_000 * times),
+        Form::Wide => faulty(sort, 60 * times, 200 * times, 1_000 * times),
     }
 }
 
 /// The classes of files for lists and work areas of all lengths.
-pub fn list_lengths(form: Form, long: bool) -> Vec<Counted> {
+pub fn list_lengths(sort: Sort, long: bool) -> Vec<Counted> {
+    if sort.own_steps {
+        return steps_plan::list_lengths(sort.form, long);
+    }
     let narrow = [
         (Made::Lawful(Class::Tiny), 20, 100),
         (Made::Lawful(Class::Small), 6, 30),
         (Made::Lawful(Class::Mid), 1, 5),
-        (Made::TwoFaults(form), 6, 30),
+        (Made::TwoFaults(sort), 6, 30),
     ];
     let wide = [
         (Made::Lawful(Class::WideTiny), 12, 100),
         (Made::Lawful(Class::WideSmall), 4, 30),
         (Made::Lawful(Class::WideMany), 2, 20),
         (Made::Lawful(Class::WideState), 0, 3),
-        (Made::TwoFaults(form), 6, 30),
+        (Made::TwoFaults(sort), 6, 30),
     ];
-    match form {
+    match sort.form {
         Form::Narrow => counted(long, &narrow),
         Form::Wide => counted(long, &wide),
     }
 }
 
 /// The classes of files whose calls get areas of all lengths.
-pub fn area_lengths(form: Form, long: bool) -> Vec<Counted> {
+pub fn area_lengths(sort: Sort, long: bool) -> Vec<Counted> {
+    if sort.own_steps {
+        return steps_plan::area_lengths(sort.form, long);
+    }
     let narrow = [
         (Made::Lawful(Class::Tiny), 150, 1_500),
         (Made::Lawful(Class::Small), 50, 500),
         (Made::Lawful(Class::Mid), 4, 40),
-        (Made::TwoFaults(form), 20, 200),
+        (Made::TwoFaults(sort), 20, 200),
     ];
     let wide = [
         (Made::Lawful(Class::WideTiny), 60, 1_000),
         (Made::Lawful(Class::WideSmall), 20, 300),
         (Made::Lawful(Class::WideMany), 6, 100),
         (Made::Lawful(Class::WideState), 0, 6),
-        (Made::TwoFaults(form), 20, 200),
+        (Made::TwoFaults(sort), 20, 200),
     ];
-    match form {
+    match sort.form {
         Form::Narrow => counted(long, &narrow),
         Form::Wide => counted(long, &wide),
     }
 }
 
 /// The classes of files whose calls are fenced.
-pub fn fenced(form: Form, long: bool) -> Vec<Counted> {
+pub fn fenced(sort: Sort, long: bool) -> Vec<Counted> {
+    if sort.own_steps {
+        return steps_plan::fenced(sort.form, long);
+    }
     let times = if long { 20 } else { 1 };
-    let (lawful, faulty) = match form {
+    let (lawful, faulty) = match sort.form {
         Form::Narrow => (
             vec![
                 (Made::Lawful(Class::Tiny), 300 * times),
@@ -274,7 +357,7 @@ pub fn fenced(form: Form, long: bool) -> Vec<Counted> {
                 (Made::Lawful(Class::Mid), 6 * times),
                 (Made::Types(32), 30 * times),
             ],
-            faulty(form, 200 * times, 200 * times, 1_000 * times),
+            faulty(sort, 200 * times, 200 * times, 1_000 * times),
         ),
         Form::Wide => (
             vec![
@@ -284,16 +367,19 @@ pub fn fenced(form: Form, long: bool) -> Vec<Counted> {
                 (Made::Lawful(Class::WideMany), 20 * times),
                 (Made::Lawful(Class::WideState), times),
             ],
-            faulty(form, 60 * times, 100 * times, 400 * times),
+            faulty(sort, 60 * times, 100 * times, 400 * times),
         ),
     };
     [lawful, faulty].concat()
 }
 
 /// The classes of files whose reviews are fenced.
-pub fn fenced_lists(form: Form, long: bool) -> Vec<Counted> {
+pub fn fenced_lists(sort: Sort, long: bool) -> Vec<Counted> {
+    if sort.own_steps {
+        return steps_plan::fenced_lists(sort.form, long);
+    }
     let times = if long { 8 } else { 1 };
-    let (lawful, faulty) = match form {
+    let (lawful, faulty) = match sort.form {
         Form::Narrow => (
             vec![
                 (Made::Lawful(Class::Tiny), 800 * times),
@@ -302,7 +388,7 @@ pub fn fenced_lists(form: Form, long: bool) -> Vec<Counted> {
                 (Made::Lawful(Class::Mid), 16 * times),
                 (Made::Lawful(Class::Maximal), 2),
             ],
-            faulty(form, 60 * times, 0, 400 * times),
+            faulty(sort, 60 * times, 0, 400 * times),
         ),
         Form::Wide => (
             vec![
@@ -311,22 +397,25 @@ pub fn fenced_lists(form: Form, long: bool) -> Vec<Counted> {
                 (Made::Lawful(Class::WideMid), 2 * times),
                 (Made::Lawful(Class::WideMany), 40 * times),
             ],
-            faulty(form, 20 * times, 0, 200 * times),
+            faulty(sort, 20 * times, 0, 200 * times),
         ),
     };
     [lawful, faulty].concat()
 }
 
 /// The classes of files that the program is run on.
-pub fn printed(form: Form, long: bool) -> Vec<Counted> {
+pub fn printed(sort: Sort, long: bool) -> Vec<Counted> {
+    if sort.own_steps {
+        return steps_plan::printed(sort.form, long);
+    }
     let narrow = [
         (Made::Lawful(Class::Tiny), 100, 1_000),
         (Made::Lawful(Class::Small), 100, 1_000),
         (Made::Lawful(Class::Mid), 10, 100),
         (Made::Lawful(Class::Maximal), 1, 10),
         (Made::Types(32), 20, 200),
-        (Made::TwoFaults(form), 40, 400),
-        (Made::Torn(form), 60, 600),
+        (Made::TwoFaults(sort), 40, 400),
+        (Made::Torn(sort), 60, 600),
     ];
     let wide = [
         (Made::Lawful(Class::WideTiny), 60, 800),
@@ -334,10 +423,10 @@ pub fn printed(form: Form, long: bool) -> Vec<Counted> {
         (Made::Lawful(Class::WideMany), 40, 400),
         (Made::Lawful(Class::WideMid), 2, 20),
         (Made::Lawful(Class::WideState), 2, 20),
-        (Made::TwoFaults(form), 20, 300),
-        (Made::Torn(form), 40, 400),
+        (Made::TwoFaults(sort), 20, 300),
+        (Made::Torn(sort), 40, 400),
     ];
-    match form {
+    match sort.form {
         Form::Narrow => counted(long, &narrow),
         Form::Wide => counted(long, &wide),
     }

@@ -4,12 +4,12 @@ use crate::classes::{worked_in, Run};
 use crate::difference::Difference;
 use crate::files::{at_edges, in_form, Made, A};
 use crate::plan;
+use crate::sort::Sort;
 use crate::tally::{Came, Tally};
 use second::form::Form;
 use second::generate::Class as Size;
 use second::printing::{print, MOST_INPUT};
 use second::random::Random;
-use second::reading::LONGEST;
 use std::fs::File;
 use std::io::{self, Read, Write};
 use std::path::{Path, PathBuf};
@@ -115,6 +115,12 @@ impl Program {
         tally.count(came(&due), difference);
     }
 
+    /// The tally of one file in three, a few bytes at a time, which takes long.
+    fn dribbled(&self, run: &Run, name: &str, files: Vec<Vec<u8>>) -> Tally {
+        let files: Vec<Vec<u8>> = files.into_iter().step_by(3).collect();
+        self.class(run, name, &files, Way::Dribbled)
+    }
+
     /// The tally of these files in a way.
     fn class(&self, run: &Run, name: &str, files: &[Vec<u8>], way: Way) -> Tally {
         let mut random = run.random(name);
@@ -125,35 +131,43 @@ impl Program {
         tally
     }
 
-    /// The classes of the program, by name: the lines expected; files, pipes and short reads of narrow and of wide rounds; none and too much.
-    pub fn classes(&self) -> [(&'static str, Class); 10] {
+    /// The classes of the program, by name: the lines expected; files, pipes and short reads of narrow and of wide rounds; files of rounds with lists of steps; none and too much.
+    pub fn classes(&self) -> [(&'static str, Class); 12] {
         [
             ("program, expected", |program, run, folder| {
                 program.expected(run, folder)
             }),
             ("program, file", |program, run, folder| {
-                let files = files(Form::Narrow, run, folder);
+                let files = files(Sort::by_policy(Form::Narrow), run, folder);
                 program.class(run, "program, file", &files, Way::File)
             }),
             ("program, pipe", |program, run, folder| {
-                let files = files(Form::Narrow, run, folder);
+                let files = files(Sort::by_policy(Form::Narrow), run, folder);
                 program.class(run, "program, pipe", &files, Way::Pipe)
             }),
             ("program, dribbled", |program, run, folder| {
-                let files = files(Form::Narrow, run, folder);
-                program.class(run, "program, dribbled", &files, Way::Dribbled)
+                let files = files(Sort::by_policy(Form::Narrow), run, folder);
+                program.dribbled(run, "program, dribbled", files)
             }),
             ("program, wide file", |program, run, folder| {
-                let files = files(Form::Wide, run, folder);
+                let files = files(Sort::by_policy(Form::Wide), run, folder);
                 program.class(run, "program, wide file", &files, Way::File)
             }),
             ("program, wide pipe", |program, run, folder| {
-                let files = files(Form::Wide, run, folder);
+                let files = files(Sort::by_policy(Form::Wide), run, folder);
                 program.class(run, "program, wide pipe", &files, Way::Pipe)
             }),
             ("program, wide dribbled", |program, run, folder| {
-                let files = files(Form::Wide, run, folder);
-                program.class(run, "program, wide dribbled", &files, Way::Dribbled)
+                let files = files(Sort::by_policy(Form::Wide), run, folder);
+                program.dribbled(run, "program, wide dribbled", files)
+            }),
+            ("program, steps", |program, run, folder| {
+                let files = files(Sort::with_steps(Form::Narrow), run, folder);
+                program.class(run, "program, steps", &files, Way::File)
+            }),
+            ("program, wide steps", |program, run, folder| {
+                let files = files(Sort::with_steps(Form::Wide), run, folder);
+                program.class(run, "program, wide steps", &files, Way::File)
             }),
             ("program, over-long", |program, run, _| {
                 program.too_long(run, "program, over-long", Way::Pipe)
@@ -213,12 +227,13 @@ fn came(text: &str) -> Came {
     number.map_or(Came::Accepted, Came::Refused)
 }
 
-/// The files of a form that the program is run on: worked rounds, boundary files and made ones.
-fn files(form: Form, run: &Run, folder: &Path) -> Vec<Vec<u8>> {
-    let mut files = worked_in(form, folder);
-    files.extend(at_edges(form));
+/// The files of a sort that the program is run on: worked rounds, boundary files, of those with lists of steps one in forty, and made ones.
+fn files(sort: Sort, run: &Run, folder: &Path) -> Vec<Vec<u8>> {
+    let mut files = worked_in(sort, folder);
+    let one_in = if sort.own_steps { 40 } else { 1 };
+    files.extend(at_edges(sort).into_iter().step_by(one_in));
     let mut random = run.random("program");
-    for (made, count) in plan::printed(form, run.long) {
+    for (made, count) in plan::printed(sort, run.long) {
         files.extend((0..count).map(|_| made.file(random.bits())));
     }
     files
@@ -228,14 +243,18 @@ fn files(form: Form, run: &Run, folder: &Path) -> Vec<Vec<u8>> {
 fn over_long() -> Vec<Vec<u8>> {
     let longest = Made::Lawful(Size::Maximal).file(1);
     let wide = Made::Lawful(Size::WideMaximal).file(1);
+    let twelve = Made::Lawful(Size::StepsMaximal).file(1);
+    let wide_twelve = Made::Lawful(Size::WideStepsMaximal).file(1);
     let filled = |file: &[u8], len: usize| {
         let mut file = file.to_vec();
         file.resize(len, 0);
         file
     };
     let mut files = vec![Vec::new(), longest.clone(), wide.clone()];
-    files.extend([LONGEST + 1, LONGEST + 4_096].map(|len| filled(&longest, len)));
-    files.extend([LONGEST, LONGEST + 1].map(|len| filled(A, len)));
+    files.extend([twelve.clone(), wide_twelve]);
+    files.extend([1, 4_096].map(|more| filled(&twelve, twelve.len() + more)));
+    files.extend([1, 4_096].map(|more| filled(&longest, longest.len() + more)));
+    files.extend([0, 1].map(|more| filled(A, longest.len() + more)));
     for len in [
         MOST_INPUT - 1,
         MOST_INPUT,
@@ -244,6 +263,7 @@ fn over_long() -> Vec<Vec<u8>> {
         3_000_000,
     ] {
         files.extend([A, &in_form(Form::Wide, A), &longest, &[]].map(|file| filled(file, len)));
+        files.push(filled(&twelve, len));
         files.push(wide[..len.min(wide.len())].to_vec());
         files.push(vec![255; len]);
     }

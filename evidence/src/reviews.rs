@@ -3,12 +3,13 @@
 use crate::call::needed;
 use crate::classes::{around, worked_in, Run};
 use crate::difference::Difference;
-use crate::files::{in_form, named, Made};
+use crate::files::{in_sort, Made};
 use crate::lists::{every, mend, own, Listed};
 use crate::plan;
 use crate::review::{came, compare};
+use crate::some_steps::with_some_lists;
+use crate::sort::Sort;
 use crate::tally::{Came, Tally};
-use second::form::Form;
 use second::random::Random;
 use second::reading::read;
 use std::path::Path;
@@ -66,9 +67,9 @@ pub fn some_list(random: &mut Random, file: &[u8]) -> Vec<u8> {
 }
 
 impl Run {
-    /// Reviews of lists of a class for rounds of these classes of a form, so many of each.
-    pub fn lists(&self, form: Form, listed: Listed, rounds: &[(Made, usize)]) -> Tally {
-        let name = named(form, listed.name());
+    /// Reviews of lists of a class for rounds of these classes of a sort, so many of each.
+    pub fn lists(&self, sort: Sort, listed: Listed, rounds: &[(Made, usize)]) -> Tally {
+        let name = sort.named(listed.name());
         let mut random = self.random(&name);
         let count = rounds.iter().map(|(_, count)| count).sum();
         let mut tally = Tally::new(&name, count, self.long).with(listed.due());
@@ -94,9 +95,9 @@ impl Run {
         tally
     }
 
-    /// Reviews of lists that are mended finding by finding, so many times at most, for rounds of these classes of a form.
-    pub fn mended(&self, form: Form, rounds: &[(Made, usize)]) -> Tally {
-        let name = named(form, "review, mended");
+    /// Reviews of lists that are mended finding by finding, so many times at most, for rounds of these classes of a sort.
+    pub fn mended(&self, sort: Sort, rounds: &[(Made, usize)]) -> Tally {
+        let name = sort.named("review, mended");
         let mut random = self.random(&name);
         let mut tally =
             Tally::new(&name, 0, self.long).with(&[Came::Accepted, Came::Seat, Came::Entry]);
@@ -144,14 +145,21 @@ impl Run {
         tally
     }
 
-    /// Every list, up to one institute and one step too many, for the rounds of at most three candidates and institutes that the worked lists are of, in a form.
-    pub fn every_list(&self, form: Form, folder: &Path) -> Tally {
-        let name = named(form, "review, every list");
+    /// Every list, up to one institute and one step too many, for the rounds of at most three candidates and institutes that the worked lists are of, in a sort; with lists of steps, those that say what the policy says and some others.
+    pub fn every_list(&self, sort: Sort, folder: &Path) -> Tally {
+        let name = sort.named("review, every list");
         let mut random = self.random(&name);
         let mut files: Vec<Vec<u8>> = worked_lists(folder)
             .into_iter()
-            .map(|one| in_form(form, &one.file))
+            .map(|one| in_sort(sort, &one.file))
             .collect();
+        if sort.own_steps {
+            let by_policy = Sort::by_policy(sort.form);
+            for one in worked_lists(folder) {
+                let file = in_sort(by_policy, &one.file);
+                files.push(with_some_lists(&mut random, &file));
+            }
+        }
         files.sort();
         files.dedup();
         let mut tally =
@@ -159,7 +167,7 @@ impl Run {
         for file in files {
             let Ok(round) = read(&file) else { continue };
             let (n, m) = (round.candidates.len(), round.institutes.len());
-            if n > 3 || m > 3 || round.form != form {
+            if n > 3 || m > 3 || Sort::of(&round) != sort {
                 continue;
             }
             for list in every(&round) {
@@ -170,13 +178,14 @@ impl Run {
         tally
     }
 
-    /// Damaged files of a form with lists of right and wrong lengths, and work areas of all sizes.
-    pub fn damaged_with_lists(&self, form: Form) -> Tally {
-        let name = named(form, "review, damaged files");
+    /// Damaged files of a sort with lists of right and wrong lengths, and work areas of all sizes.
+    pub fn damaged_with_lists(&self, sort: Sort) -> Tally {
+        let name = sort.named("review, damaged files");
         let mut random = self.random(&name);
-        let classes = plan::damaged_with_lists(form, self.long);
+        let classes = plan::damaged_with_lists(sort, self.long);
         let count = classes.iter().map(|(_, count)| count).sum();
-        let due: Vec<Came> = (1..=15).map(Came::Refused).collect();
+        let mut due: Vec<Came> = (1..=15).map(Came::Refused).collect();
+        due.extend(plan::of_steps(sort));
         let mut tally = Tally::new(&name, count, self.long).with(&due);
         for (made, count) in classes {
             for file in self.made_for(&format!("{name}, {}", made.name()), made, count) {
@@ -191,11 +200,11 @@ impl Run {
     }
 
     /// Lists of lengths around 2n, in the wide form 4n, and work areas of lengths around 8n, on lawful files and on refused ones.
-    pub fn list_lengths(&self, form: Form, folder: &Path) -> Tally {
-        let name = named(form, "review, lengths");
+    pub fn list_lengths(&self, sort: Sort, folder: &Path) -> Tally {
+        let name = sort.named("review, lengths");
         let mut random = self.random(&name);
-        let mut files = worked_in(form, folder);
-        for (made, count) in plan::list_lengths(form, self.long) {
+        let mut files = worked_in(sort, folder);
+        for (made, count) in plan::list_lengths(sort, self.long) {
             files.extend(self.made_for(&format!("{name}, {}", made.name()), made, count));
         }
         let mut tally = Tally::new(&name, files.len() * 77, self.long).with(&[
@@ -206,7 +215,7 @@ impl Run {
         for file in files {
             let n = needed(&file).map_or(3, |least| least.work / 8);
             let whole = own(&file);
-            for len in lengths(&mut random, form.seat_bytes() * n) {
+            for len in lengths(&mut random, sort.form.seat_bytes() * n) {
                 let mut list = whole.clone();
                 list.resize(len, random.bits() as u8);
                 for work in around(&mut random, work_size(n)) {

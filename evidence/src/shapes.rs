@@ -15,6 +15,7 @@ fn bare(types: usize) -> Institute {
     Institute {
         positions: [0; 5],
         reserved: std::array::from_fn(|_| vec![0; types]),
+        steps: Vec::new(),
     }
 }
 

@@ -5,7 +5,10 @@
 use crate::choice::Case;
 use crate::files::{in_form, Made};
 use crate::lists::{own, Listed};
+use crate::plan;
 use crate::probe;
+use crate::some_steps::with_some_lists;
+use crate::sort::Sort;
 use second::form::Form;
 use second::generate::Class;
 use second::random::Random;
@@ -62,28 +65,40 @@ fn greatest(files: &[Vec<u8>], call: impl Fn(&[u8])) -> usize {
         .unwrap_or(0)
 }
 
-/// The files of a form whose calls are measured: lawful ones of all classes, the worst ones, and refused ones.
-fn files(form: Form) -> Vec<Vec<u8>> {
+/// The files of a sort whose calls are measured: lawful ones of all classes, the worst ones, and refused ones.
+fn files(sort: Sort) -> Vec<Vec<u8>> {
     let mut files = vec![Vec::new()];
-    for class in Class::ALL.into_iter().filter(|class| class.form() == form) {
+    let classes = Class::ALL.into_iter();
+    for class in classes
+        .filter(|class| (class.form(), class.has_step_lists()) == (sort.form, sort.own_steps))
+    {
         files.extend((1..=5).map(|seed| Made::Lawful(class).file(seed)));
     }
-    files.extend((0..5).map(|seed| in_form(form, &Made::Worst(512).file(seed))));
-    files.extend((0..3).map(|seed| in_form(form, &Made::Types(512).file(seed))));
+    let mut random = Random::new(1);
+    let worst = (0..5).map(|seed| Made::Worst(512).file(seed));
+    let types = (0..3).map(|seed| Made::Types(512).file(seed));
+    files.extend(worst.chain(types).map(|file| {
+        let file = in_form(sort.form, &file);
+        match sort.own_steps {
+            true => with_some_lists(&mut random, &file),
+            false => file,
+        }
+    }));
+    let refused = plan::faulty(sort, 5, 0, 0).into_iter();
     files.extend(
-        (1..=13).flat_map(|number| (0..5).map(move |seed| Made::Refused(form, number).file(seed))),
+        refused.flat_map(|(made, count)| (0..count as u64).map(move |seed| made.file(seed))),
     );
     files
 }
 
 /// The greatest stack of the reviews for these files of the unit's own lists and of one list of each other class.
-fn greatest_review(files: &[Vec<u8>]) -> usize {
+fn greatest_review(sort: Sort, files: &[Vec<u8>]) -> usize {
     let mut random = Random::new(1);
     let mut work = [0; WORK_MOST];
     let mut most = 0;
     for file in files {
         let lists: Vec<Vec<u8>> = match read(file) {
-            Ok(round) => Listed::all(round.form)
+            Ok(round) => Listed::all(sort)
                 .into_iter()
                 .map(|listed| listed.list(&mut random, &round, file))
                 .collect(),
@@ -103,13 +118,16 @@ fn greatest_choice() -> usize {
     let mut random = Random::new(1);
     let mut most = 0;
     for number in 0..400 {
-        let case = Case::made(&mut random, if number < 40 { 512 } else { 60 });
-        let body = case.body();
+        let places = if number < 40 { 512 } else { 60 };
+        let case = match number % 2 {
+            0 => Case::made(&mut random, places),
+            _ => Case::of_steps(&mut random, places),
+        };
         let mut steps = vec![0; case.offers.len()];
         let mut types = steps.clone();
         most = most.max(depth(&mut || {
             probe::choose(
-                &body,
+                &case.body,
                 case.types,
                 case.policy,
                 &case.marks,
@@ -122,9 +140,9 @@ fn greatest_choice() -> usize {
     most
 }
 
-/// The greatest stack of each call over the files of a form, as text.
-fn of_form(form: Form) -> String {
-    let files = files(form);
+/// The greatest stack of each call over the files of a sort, as text.
+fn of_sort(sort: Sort) -> String {
+    let files = files(sort);
     let (answer, work) = (RefCell::new([0; ANSWER_MOST]), RefCell::new([0; WORK_MOST]));
     let allot = greatest(&files, |file| {
         tazbilk::allot(file, &mut *answer.borrow_mut(), &mut *work.borrow_mut());
@@ -132,28 +150,32 @@ fn of_form(form: Form) -> String {
     let verdict = greatest(&files, |file| {
         let _ = probe::verdict(file);
     });
-    let review = greatest_review(&files);
-    let name = match form {
+    let review = greatest_review(sort, &files);
+    let form = match sort.form {
         Form::Narrow => "narrow",
         Form::Wide => "wide",
     };
+    let steps = match sort.own_steps {
+        true => " with lists of steps",
+        false => "",
+    };
     format!(
-        "over {} {name} files: allot {allot}, review {review}, verdict {verdict}",
+        "over {} {form} files{steps}: allot {allot}, review {review}, verdict {verdict}",
         files.len()
     )
 }
 
 /// What was measured, as lines of text.
 pub fn text() -> String {
-    let [narrow, wide] = Form::BOTH.map(of_form);
+    let of_sorts = Sort::ALL.map(|sort| format!("- {};\n", of_sort(sort)));
     let (choose, nothing) = (greatest_choice(), depth(&mut || {}));
     format!(
         "Each call is run on a stack of its own that a pattern fills beforehand; the lowest byte changed tells how deep it went. The\n\
-         greatest, in bytes, over files of all classes of a form, the worst and the refused ones among them, and in reviews over the\n\
+         greatest, in bytes, over files of all classes of a sort, the worst and the refused ones among them, and in reviews over the\n\
          unit's own lists and others:\n\n\
-         - {narrow};\n\
-         - {wide};\n\
+         {}\
          - over 400 single choices: choose {choose}.\n\n\
-         A call of nothing takes {nothing}, which is counted in, and so is the wrapper.\n"
+         A call of nothing takes {nothing}, which is counted in, and so is the wrapper.\n",
+        of_sorts.concat()
     )
 }

@@ -68,8 +68,9 @@ pub fn page(
          placing search: one institute, half of all candidates too many for its 8 types. In those of types every position is reserved\n\
          and most candidates hold several types: apart, at 32 institutes, or together at one, where half of all candidates try seven types in\n\
          vain before their own (`evidence/src/shapes.rs`). The wide maximal ones have 1,000 institutes, 512 candidates of 16 entries, 8\n\
-         types and whole merit lists, 1,149,660 bytes, nine tenths of them merit lists, which are read through for questions 11 and 12;\n\
-         all others are narrow rounds.\n\n\
+         types and whole merit lists, 1,149,660 bytes, nine tenths of them merit lists, which are read through for questions 11 and 12.\n\
+         In those of steps each institute lists its own, twelve in the maximal ones, which have 60,172 bytes, or 1,299,660 in the wide\n\
+         form. All others are narrow rounds of policies 0 and 1.\n\n\
          {}\n## Cost over n\n\nThe contested shape, all but n and the positions equal.\n\n{}\n![cost over n]({plot})\n\n\
          ## Cost over offers\n\nThe contested shape at 512 candidates, the rows cut to so many entries: an institute holds at most 40, however many offers are\n\
          made to it.\n\n{}\n\

@@ -13,7 +13,7 @@ pub enum Came {
 }
 
 /// The numbers of refusals are below this.
-const NUMBERS: usize = 17;
+const NUMBERS: usize = 19;
 
 /// The counts of a class, the first case that differed, and the time taken.
 pub struct Tally {
@@ -111,7 +111,7 @@ impl Tally {
             .map(|(name, count)| format!("{name}:{count}"))
             .collect();
         format!(
-            "{:<27} {:>8} {:>8} {:>9} {:>8.1}  {}",
+            "{:<33} {:>8} {:>8} {:>9} {:>8.1}  {}",
             self.name,
             self.compared,
             self.accepted,
@@ -126,7 +126,7 @@ impl Tally {
     /// The line above those of the classes.
     pub fn header() -> String {
         format!(
-            "{:<27} {:>8} {:>8} {:>9} {:>8}  found, and refused by number",
+            "{:<33} {:>8} {:>8} {:>9} {:>8}  found, and refused by number",
             "class", "compared", "accepted", "different", "seconds"
         )
     }

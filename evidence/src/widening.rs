@@ -1,7 +1,7 @@
 //! The unit on a narrow file and on the same one rewritten in the wide form: both calls have to say the same.
 
 use crate::area::Area;
-use crate::call::{self, needed};
+use crate::call::{self, areas, needed};
 use crate::classes::{worked, Run};
 use crate::difference::{area_text, Difference};
 use crate::files::{at_edges, Made};
@@ -9,6 +9,7 @@ use crate::lists::Listed;
 use crate::plan;
 use crate::review;
 use crate::reviews::worked_lists;
+use crate::sort::Sort;
 use crate::tally::{Came, Tally};
 use second::form::Form;
 use second::random::Random;
@@ -21,17 +22,14 @@ use tazbilk::{list_size, Answer};
 pub const CALLS: &str = "widened";
 pub const REVIEWS: &str = "widened, reviews";
 
+/// The sorts of narrow rounds.
+const NARROW: [Sort; 2] = [
+    Sort::by_policy(Form::Narrow),
+    Sort::with_steps(Form::Narrow),
+];
+
 /// What stands for the second program where a case differs.
 const UNIT_TOO: &str = "'second' is what the unit says of the narrow one";
-
-/// Both areas, of just the lengths that the round of a file needs.
-fn areas(random: &mut Random, file: &[u8]) -> (Area, Area) {
-    let least = needed(file).expect("a lawful file");
-    (
-        Area::new(random, least.answer),
-        Area::new(random, least.work),
-    )
-}
 
 /// Allots a lawful narrow file and the same in the wide form, and compares offers, seats, steps, closing places and types.
 fn compare(random: &mut Random, file: &[u8]) -> (Came, Option<Difference>) {
@@ -86,11 +84,15 @@ impl Run {
     /// Every lawful narrow file of the worked rounds, the edges and the lawful classes against the same in the wide form.
     pub fn widened(&self, folder: &Path) -> Tally {
         let mut random = self.random(CALLS);
-        let classes = plan::lawful(Form::Narrow, self.long);
+        let classes: Vec<_> = NARROW
+            .into_iter()
+            .flat_map(|sort| plan::lawful(sort, self.long))
+            .collect();
         let count = classes.iter().map(|(_, count)| count).sum();
         let mut tally = Tally::new(CALLS, count, self.long).with(&[Came::Accepted]);
         let made = (classes.into_iter()).flat_map(|(made, count)| self.made(made, count));
-        let fixed = worked(folder).into_iter().chain(at_edges(Form::Narrow));
+        let edges = NARROW.into_iter().flat_map(at_edges);
+        let fixed = worked(folder).into_iter().chain(edges);
         for file in fixed.chain(made) {
             if read(&file).is_ok_and(|round| round.form == Form::Narrow) {
                 let (came, difference) = compare(&mut random, &file);
@@ -103,9 +105,7 @@ impl Run {
     /// The worked lists and lists of every class for narrow files against the same in the wide form.
     pub fn widened_reviews(&self, folder: &Path) -> Tally {
         let mut random = self.random(REVIEWS);
-        let classes = plan::widened_lists(self.long);
-        let each: usize = classes.iter().map(|(_, count)| count).sum();
-        let count = each * Listed::BOTH.len();
+        let count = self.widened_count();
         let mut tally =
             Tally::new(REVIEWS, count, self.long).with(&[Came::Accepted, Came::Seat, Came::Entry]);
         for one in worked_lists(folder) {
@@ -115,12 +115,24 @@ impl Run {
                 tally.count(came, difference);
             }
         }
-        for listed in Listed::BOTH {
-            for &(made, count) in &classes {
-                self.widened_lists(&mut tally, &mut random, listed, (made, count));
+        for sort in NARROW {
+            for listed in Listed::all(sort) {
+                for counted in plan::widened_lists(sort, self.long) {
+                    self.widened_lists(&mut tally, &mut random, listed, counted);
+                }
             }
         }
         tally
+    }
+
+    /// How many made lists are rewritten.
+    fn widened_count(&self) -> usize {
+        let of_sort = |sort| -> usize {
+            let each = plan::widened_lists(sort, self.long);
+            let files: usize = each.iter().map(|(_, count)| count).sum();
+            files * Listed::all(sort).len()
+        };
+        NARROW.into_iter().map(of_sort).sum()
     }
 
     /// Lists of a class for so many files of a class.

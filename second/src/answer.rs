@@ -5,8 +5,9 @@ use crate::list::seat_bytes;
 use crate::offers::{allot, Allotment};
 use crate::orders::{ended, Order};
 use crate::reading::{read, Refusal, Round};
+use crate::steps::closing_places;
 
-/// What a call answers; the answer bytes are the first 3n + 12m of the answer area, 5n + 12m in the wide form, none where the call takes no answer area.
+/// What a call answers; the answer bytes are the first 3n + 12m of the answer area, 5n for 3n in the wide form and 24m for 12m under policy 2, none where the call takes no answer area.
 #[derive(Clone, Debug, PartialEq, Eq)]
 pub enum Outcome {
     Allotted { offers: usize, answer: Vec<u8> },
@@ -28,9 +29,10 @@ pub(crate) const TOO_SMALL: Refusal = Refusal {
     offset: 0,
 };
 
-/// The bytes of the answer area a round needs: for each candidate those of a seat and one more, and twelve for each institute.
+/// The bytes of the answer area a round needs: for each candidate those of a seat and one more, and two for each closing place of each institute.
 pub fn answer_bytes(round: &Round) -> usize {
-    (round.form.seat_bytes() + 1) * round.candidates.len() + 12 * round.institutes.len()
+    let each_institute = 2 * closing_places(round);
+    (round.form.seat_bytes() + 1) * round.candidates.len() + each_institute * round.institutes.len()
 }
 
 /// The bytes of the work area a round needs.

@@ -1,7 +1,8 @@
 //! One institute chooses: what its steps give from any set of offers to it.
 
 use crate::horizontal::{first_placing, use_of};
-use crate::reading::{Round, OBC, OPEN};
+use crate::reading::Round;
+use crate::steps::{closing_places, steps_of};
 
 /// An offer to a known institute: a candidate, counted from 0, and the category of the entry.
 #[derive(Clone, Copy, Debug, PartialEq, Eq, PartialOrd, Ord, Hash)]
@@ -44,14 +45,6 @@ pub struct Step<'a> {
     pub reserved: &'a [usize],
 }
 
-/// The category a step considers.
-pub fn category_of(step: u8) -> u8 {
-    match step {
-        1 | 6 => OPEN,
-        _ => step - 1,
-    }
-}
-
 /// The rule by which institutes choose; what is written here is the document's.
 pub trait Rule {
     /// Those taken for use within one step, as places in the list of those considered.
@@ -59,8 +52,8 @@ pub trait Rule {
         raising(step)
     }
 
-    /// The positions of step 6, from those of step 4 and how many of these were taken.
-    fn dereserved(&self, positions: usize, taken: usize) -> usize {
+    /// The vacancies that a step hands on, from its positions, handed ones included, and how many of these were taken.
+    fn vacancies(&self, positions: usize, taken: usize) -> usize {
         positions - taken
     }
 
@@ -74,9 +67,9 @@ pub trait Rule {
         steps(self, round, institute, offers, Earlier::OfferLeftOut)
     }
 
-    /// The closing place of each step, from an institute's merit list and what it takes of all offers ever made to it.
-    fn closing(&self, merit: &[usize], taken: &[Taken]) -> [usize; 6] {
-        largest_by_merit(merit, taken)
+    /// The closing places of an institute, from what it takes of all offers ever made to it.
+    fn closing(&self, round: &Round, institute: usize, taken: &[Taken]) -> Vec<usize> {
+        largest_by_merit(round, institute, taken)
     }
 
     /// The type of each of those an institute takes of all offers ever made to it, 0 for those in a fill by merit.
@@ -116,10 +109,13 @@ pub fn filling(step: &Step, for_use: &[usize]) -> Vec<usize> {
         .collect()
 }
 
-/// For each step, the largest merit place among those it took in its fill by merit, 0 if nobody.
-pub fn largest_by_merit(merit: &[usize], taken: &[Taken]) -> [usize; 6] {
-    let mut places = [0; 6];
-    for (place, &candidate) in merit.iter().enumerate() {
+/// For each step, the largest merit place among those it took in its fill by merit, 0 if nobody and beyond the steps.
+pub fn largest_by_merit(round: &Round, institute: usize, taken: &[Taken]) -> Vec<usize> {
+    let mut places = vec![0; closing_places(round)];
+    if taken.is_empty() {
+        return places;
+    }
+    for (place, &candidate) in round.merit[institute].iter().enumerate() {
         for one in taken {
             if one.offer.candidate == candidate && one.way == Way::ByMerit {
                 places[usize::from(one.step) - 1] = place + 1;
@@ -132,13 +128,13 @@ pub fn largest_by_merit(merit: &[usize], taken: &[Taken]) -> [usize; 6] {
 /// For each of those taken, the type of the first placing of those whom the same step took for use, 0 for the others.
 pub fn first_types(round: &Round, institute: usize, taken: &[Taken]) -> Vec<u8> {
     let mut types = vec![0; taken.len()];
-    for step in 1..=6 {
+    for (step, listed) in (1..).zip(steps_of(round, institute)) {
         let places = used_by_merit(&round.merit[institute], taken, step);
         let marks: Vec<u8> = places
             .iter()
             .map(|&place| round.candidates[taken[place].offer.candidate].marks)
             .collect();
-        let placing = first_placing(&marks, &reserved_of(round, institute, step));
+        let placing = first_placing(&marks, &listed.reserved);
         for (place, given) in places.into_iter().zip(placing) {
             types[place] = given;
         }
@@ -156,12 +152,10 @@ pub fn used_by_merit(merit: &[usize], taken: &[Taken], step: u8) -> Vec<usize> {
     merit.iter().filter_map(place_of).collect()
 }
 
-/// The positions that a step reserves for each type: none at step 6.
+/// The positions that a step reserves for each type.
 pub fn reserved_of(round: &Round, institute: usize, step: u8) -> Vec<usize> {
-    match step {
-        6 => vec![0; round.types],
-        _ => round.institutes[institute].reserved[usize::from(category_of(step))].clone(),
-    }
+    let mut steps = steps_of(round, institute);
+    steps.swap_remove(usize::from(step) - 1).reserved
 }
 
 /// Runs the steps of one institute over a set of offers, under a rule.
@@ -172,18 +166,13 @@ pub fn steps<R: Rule + ?Sized>(
     offers: &[Offer],
     earlier: Earlier,
 ) -> Vec<Taken> {
-    let own = &round.institutes[institute];
-    let last = if round.policy == 1 { 6 } else { 5 };
+    let own = steps_of(round, institute);
+    let mut handed = vec![0; own.len()];
     let mut taken: Vec<Taken> = Vec::new();
-    for number in 1..=last {
-        let category = category_of(number);
-        let positions = if number == 6 {
-            let filled = taken.iter().filter(|one| one.step == 4).count();
-            rule.dereserved(own.positions[usize::from(OBC)], filled)
-        } else {
-            own.positions[usize::from(category)]
-        };
-        let reserved = &reserved_of(round, institute, number);
+    for (place, listed) in own.iter().enumerate() {
+        let (number, category) = (place as u8 + 1, listed.category);
+        let positions = listed.positions + handed[place];
+        let reserved = &listed.reserved;
         let considered = considered(&round.merit[institute], offers, category, &taken, earlier);
         let marks = considered
             .iter()
@@ -197,6 +186,9 @@ pub fn steps<R: Rule + ?Sized>(
         };
         let for_use = rule.for_use(&step);
         let by_merit = filling(&step, &for_use);
+        if let Some(receiver) = usize::from(listed.receiver).checked_sub(1) {
+            handed[receiver] += rule.vacancies(positions, for_use.len() + by_merit.len());
+        }
         for (way, places) in [(Way::ForUse, for_use), (Way::ByMerit, by_merit)] {
             taken.extend(places.into_iter().map(|place| Taken {
                 offer: Offer {

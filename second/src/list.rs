@@ -1,9 +1,10 @@
 //! A hand-made list: what its bytes for each candidate, institute and step, say.
 
-use crate::choice::{category_of, Offer};
+use crate::choice::Offer;
 use crate::form::Form;
 use crate::offers::Seat;
 use crate::reading::{Entry, Round};
+use crate::steps::category_of;
 
 /// What a list says of a candidate.
 #[derive(Clone, Copy, Debug, PartialEq, Eq)]
@@ -16,12 +17,12 @@ pub enum Said {
     NotInRow,
 }
 
-/// The entry a seat stands for: that of its institute with the category of its step.
-fn entry_of(seat: Seat) -> Entry {
-    Entry {
+/// The entry a seat stands for, that of its institute with the category of its step, if the institute has that step.
+fn entry_of(round: &Round, seat: Seat) -> Option<Entry> {
+    Some(Entry {
         institute: seat.institute,
-        category: category_of(seat.step),
-    }
+        category: category_of(round, seat.institute, seat.step)?,
+    })
 }
 
 /// The bytes of a seat, or of none, in a form.
@@ -33,8 +34,9 @@ pub fn seat_bytes(form: Form, seat: Option<Seat>) -> Vec<u8> {
     bytes
 }
 
-/// What the bytes of a seat say of the candidate with this row, there being so many institutes.
-fn said_of(form: Form, row: &[Entry], institutes: usize, bytes: &[u8]) -> Said {
+/// What the bytes of a seat say of the candidate of a round with this row.
+fn said_of(round: &Round, row: &[Entry], bytes: &[u8]) -> Said {
+    let form = round.form;
     let (institute, rest) = (form.institute(bytes), &bytes[form.institute_bytes()..]);
     let (step, behind) = (rest[0], &rest[1..]);
     if behind.iter().any(|&byte| byte != 0) {
@@ -43,14 +45,15 @@ fn said_of(form: Form, row: &[Entry], institutes: usize, bytes: &[u8]) -> Said {
     if (institute, step) == (0, 0) {
         return Said::NoSeat;
     }
-    if !(1..=institutes).contains(&institute) || !(1..=6).contains(&step) {
+    if !(1..=round.institutes.len()).contains(&institute) {
         return Said::NotInRow;
     }
     let seat = Seat {
         institute: institute - 1,
         step,
     };
-    match row.iter().position(|&entry| entry == entry_of(seat)) {
+    let place = entry_of(round, seat).and_then(|own| row.iter().position(|&entry| entry == own));
+    match place {
         Some(place) => Said::InRow { seat, place },
         None => Said::NotInRow,
     }
@@ -60,7 +63,7 @@ fn said_of(form: Form, row: &[Entry], institutes: usize, bytes: &[u8]) -> Said {
 pub fn said(round: &Round, list: &[u8]) -> Vec<Said> {
     let rows = round.candidates.iter().map(|candidate| &candidate.row);
     rows.zip(list.chunks_exact(round.form.seat_bytes()))
-        .map(|(row, bytes)| said_of(round.form, row, round.institutes.len(), bytes))
+        .map(|(row, bytes)| said_of(round, row, bytes))
         .collect()
 }
 
@@ -68,10 +71,10 @@ pub fn said(round: &Round, list: &[u8]) -> Vec<Said> {
 pub fn listed(round: &Round, said: &[Said]) -> Vec<Vec<Offer>> {
     let mut offers = vec![Vec::new(); round.institutes.len()];
     for (candidate, one) in said.iter().enumerate() {
-        if let Said::InRow { seat, .. } = one {
+        if let Said::InRow { seat, place } = *one {
             offers[seat.institute].push(Offer {
                 candidate,
-                category: category_of(seat.step),
+                category: round.candidates[candidate].row[place].category,
             });
         }
     }

@@ -15,7 +15,7 @@ pub struct Seat {
 pub struct Allotment {
     pub offers: usize,
     pub seats: Vec<Option<Seat>>,
-    pub closing: Vec<[usize; 6]>,
+    pub closing: Vec<Vec<usize>>,
     pub types: Vec<u8>,
 }
 
@@ -81,12 +81,12 @@ impl<'a, R: Rule + ?Sized> Process<'a, R> {
                 types[taken.offer.candidate] = own;
             }
         }
-        let institutes = self.round.merit.iter().zip(&self.held);
+        let institutes = self.held.iter().enumerate();
         Allotment {
             offers: self.tried.iter().sum(),
             seats,
             closing: institutes
-                .map(|(merit, held)| self.rule.closing(merit, held))
+                .map(|(institute, held)| self.rule.closing(self.round, institute, held))
                 .collect(),
             types,
         }

@@ -1,12 +1,22 @@
 //! Reading a round file: questions 1 to 13, put to each record in file order.
 
 use crate::form::Form;
+use crate::steps::{step_bytes, ListedStep, LISTED, MOST_STEPS};
 
 /// The number of bytes of the longest lawful file of the narrow form.
-pub const LONGEST: usize = 55_372;
+pub const LONGEST: usize = 60_172;
 
 /// The number of bytes of the longest lawful file of either form.
-pub const LONGEST_WIDE: usize = 1_149_660;
+pub const LONGEST_WIDE: usize = 1_299_660;
+
+/// The number of bytes of the longest lawful file of the narrow form under policies 0 and 1.
+pub const LONGEST_WITHOUT_STEPS: usize = 55_372;
+
+/// The number of bytes of the longest lawful file of either form under policies 0 and 1.
+pub const LONGEST_WIDE_WITHOUT_STEPS: usize = 1_149_660;
+
+/// The most positions of an institute.
+const MOST_POSITIONS: usize = 1024;
 
 /// The most candidates of a round.
 pub const MOST_CANDIDATES: usize = 512;
@@ -24,11 +34,12 @@ pub struct Entry {
     pub category: u8,
 }
 
-/// The positions of an institute, for each category code in all and reserved for each type.
-#[derive(Clone, Debug, PartialEq, Eq)]
+/// What an institute's record says: under policies 0 and 1 the positions for each category code, in all and reserved for each type, under policy 2 the steps of its list; the others are empty.
+#[derive(Clone, Debug, Default, PartialEq, Eq)]
 pub struct Institute {
     pub positions: [usize; 5],
     pub reserved: [Vec<usize>; 5],
+    pub steps: Vec<ListedStep>,
 }
 
 /// A candidate's code, marks and row of entries, best first.
@@ -138,12 +149,15 @@ pub fn read(file: &[u8]) -> Result<Round, Refusal> {
     let in_range = (1..=MOST_CANDIDATES).contains(&n)
         && (1..=form.most_institutes()).contains(&m)
         && types <= 8
-        && policy <= 1;
+        && policy <= usize::from(LISTED);
     head.ask(5, in_range)?;
 
     let mut institutes = Vec::new();
     for _ in 0..m {
-        institutes.push(read_institute(&mut reader, types)?);
+        institutes.push(match policy as u16 {
+            LISTED => read_steps(&mut reader, types)?,
+            _ => read_institute(&mut reader, types)?,
+        });
     }
     let mut candidates = Vec::new();
     for _ in 0..n {
@@ -168,20 +182,52 @@ pub fn read(file: &[u8]) -> Result<Round, Refusal> {
 fn read_institute(reader: &mut Reader, types: usize) -> Result<Institute, Refusal> {
     let record = reader.record(|kind| kind == 2, |length| length == 10 + 10 * types)?;
     let numbers = record.numbers();
-    let mut institute = Institute {
-        positions: [0; 5],
-        reserved: Default::default(),
-    };
+    let mut institute = Institute::default();
     for (category, part) in numbers.chunks_exact(1 + types).enumerate() {
         institute.positions[category] = part[0];
         institute.reserved[category] = part[1..].to_vec();
     }
-    record.ask(6, institute.positions.iter().sum::<usize>() <= 1024)?;
+    let positions = institute.positions.iter();
+    record.ask(6, positions.sum::<usize>() <= MOST_POSITIONS)?;
     let enough = (0..5).all(|category| {
         institute.reserved[category].iter().sum::<usize>() <= institute.positions[category]
     });
     record.ask(7, enough)?;
     Ok(institute)
+}
+
+/// Reads one institute's record under policy 2.
+fn read_steps(reader: &mut Reader, types: usize) -> Result<Institute, Refusal> {
+    let width = step_bytes(types);
+    let record = reader.record(
+        |kind| kind == 7,
+        |length| (1..=MOST_STEPS).any(|steps| length == steps * width),
+    )?;
+    let steps: Vec<ListedStep> = record.body.chunks_exact(width).map(step_in).collect();
+    let own = steps.iter().map(|step| step.positions);
+    record.ask(6, own.sum::<usize>() <= MOST_POSITIONS)?;
+    let enough = |step: &ListedStep| step.reserved.iter().sum::<usize>() <= step.positions;
+    record.ask(7, steps.iter().all(enough))?;
+    record.ask(17, steps.iter().all(|step| step.category <= 4))?;
+    let later = |(place, step): (usize, &ListedStep)| {
+        step.receiver == 0 || (place + 2..=steps.len()).contains(&usize::from(step.receiver))
+    };
+    record.ask(18, steps.iter().enumerate().all(later))?;
+    Ok(Institute {
+        steps,
+        ..Institute::default()
+    })
+}
+
+/// The step that the bytes of a list say: category, receiver, positions and reserved ones.
+fn step_in(bytes: &[u8]) -> ListedStep {
+    let number = |at: usize| two_bytes(bytes, at);
+    ListedStep {
+        category: bytes[0],
+        receiver: bytes[1],
+        positions: number(2),
+        reserved: (4..bytes.len()).step_by(2).map(number).collect(),
+    }
 }
 
 /// Reads one candidate's record.

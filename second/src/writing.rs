@@ -2,6 +2,7 @@
 
 use crate::form::Form;
 use crate::reading::{Candidate, Institute, Round};
+use crate::steps::{ListedStep, LISTED};
 
 /// The bytes of two-byte numbers.
 pub fn two_bytes(numbers: &[usize]) -> Vec<u8> {
@@ -23,7 +24,7 @@ pub fn head(form: Form, n: usize, m: usize, types: usize, policy: usize) -> Vec<
     record(form.head(), &two_bytes(&[n, m, types, policy]))
 }
 
-/// An institute's record.
+/// An institute's record under policies 0 and 1.
 pub fn institute(institute: &Institute) -> Vec<u8> {
     let mut numbers = Vec::new();
     for category in 0..5 {
@@ -31,6 +32,20 @@ pub fn institute(institute: &Institute) -> Vec<u8> {
         numbers.extend(&institute.reserved[category]);
     }
     record(2, &two_bytes(&numbers))
+}
+
+/// An institute's record under policy 2.
+pub fn step_list(steps: &[ListedStep]) -> Vec<u8> {
+    let body: Vec<Vec<u8>> = steps.iter().map(step).collect();
+    record(7, &body.concat())
+}
+
+/// The bytes of a step in a list.
+pub fn step(step: &ListedStep) -> Vec<u8> {
+    let mut bytes = vec![step.category, step.receiver];
+    bytes.extend(two_bytes(&[step.positions]));
+    bytes.extend(two_bytes(&step.reserved));
+    bytes
 }
 
 /// A candidate's record of a form.
@@ -58,7 +73,10 @@ pub fn records(round: &Round) -> Vec<Vec<u8>> {
         round.types,
         usize::from(round.policy),
     )];
-    records.extend(round.institutes.iter().map(institute));
+    records.extend(round.institutes.iter().map(|own| match round.policy {
+        LISTED => step_list(&own.steps),
+        _ => institute(own),
+    }));
     let candidates = round.candidates.iter();
     records.extend(candidates.map(|one| candidate(round.form, one)));
     records.extend(round.merit.iter().map(|list| merit(list)));

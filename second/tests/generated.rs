@@ -2,11 +2,14 @@
 
 use second::choice::{Document, Rule};
 use second::generate::{
-    boundary, damaged, lawful, lawful_round, two_faults, wide_boundary, wide_damaged,
-    wide_two_faults, Class, Damaged, Expected,
+    boundary, damaged, lawful, lawful_round, steps_boundary, steps_damaged, steps_two_faults,
+    two_faults, wide_boundary, wide_damaged, wide_steps_damaged, wide_steps_two_faults,
+    wide_two_faults, Class, Damaged, Expected, STEPS_QUESTIONS,
 };
 use second::offers::Process;
-use second::reading::{read, Refusal, Round, LONGEST, LONGEST_WIDE};
+use second::reading::{
+    read, Refusal, Round, LONGEST, LONGEST_WIDE, LONGEST_WIDE_WITHOUT_STEPS, LONGEST_WITHOUT_STEPS,
+};
 use second::writing::write;
 use second::{call, call_on, Form, Outcome};
 
@@ -69,23 +72,43 @@ fn each_refusal_of_a_wide_file_is_reached_by_its_class_at_its_byte() {
 }
 
 #[test]
+fn each_refusal_of_a_file_with_step_lists_is_reached_by_its_class_at_its_byte() {
+    let mut told_narrow = 0;
+    for number in STEPS_QUESTIONS {
+        for seed in 0..300 {
+            let made = steps_damaged(number, seed);
+            assert_eq!(made.number, number);
+            assert_refused(&made, seed);
+            let made = wide_steps_damaged(number, seed);
+            told_narrow += u64::from((number, made.number) == (2, 5));
+            assert!(made.number == number || (number, made.number) == (2, 5));
+            assert_refused(&made, seed);
+        }
+    }
+    assert!(told_narrow < 5, "{told_narrow}");
+}
+
+#[test]
 fn refusal_14_is_reached_by_each_area_too_small() {
     let classes = [
-        (Class::Small, 3),
-        (Class::WideSmall, 5),
-        (Class::WideMany, 5),
+        (Class::Small, 3, 12),
+        (Class::WideSmall, 5, 12),
+        (Class::WideMany, 5, 12),
+        (Class::StepsSmall, 3, 24),
+        (Class::WideStepsSmall, 5, 24),
+        (Class::WideStepsMany, 5, 24),
     ];
-    for (seed, (class, each)) in (0..300).flat_map(|seed| classes.map(|class| (seed, class))) {
+    for (seed, (class, each, own)) in (0..300).flat_map(|seed| classes.map(|class| (seed, class))) {
         let file = lawful(class, seed);
         let round = lawful_round(class, seed);
         let (n, m) = (round.candidates.len(), round.institutes.len());
-        let (answer, work) = (each * n + 12 * m, 8 * n);
+        let (answer, work) = (each * n + own * m, 8 * n);
         let refused = Outcome::Refused {
             number: 14,
             offset: 0,
         };
         assert_eq!(call(&file, answer - 1, work), refused);
-        assert_eq!(call(&file, (each - 1) * n + 12 * m, work), refused);
+        assert_eq!(call(&file, (each - 1) * n + own * m, work), refused);
         assert_eq!(call(&file, answer, work - 1), refused);
         assert!(matches!(
             call(&file, answer, work),
@@ -99,12 +122,15 @@ fn the_first_of_two_faults_decides() {
     for seed in 0..3000 {
         assert_refused(&two_faults(seed), seed);
         assert_refused(&wide_two_faults(seed), seed);
+        assert_refused(&steps_two_faults(seed), seed);
+        assert_refused(&wide_steps_two_faults(seed), seed);
     }
 }
 
 #[test]
 fn boundary_files_give_what_they_are_made_for() {
-    for (name, file, expected) in boundary().into_iter().chain(wide_boundary()) {
+    let files = [boundary(), wide_boundary(), steps_boundary()].concat();
+    for (name, file, expected) in files {
         match expected {
             Expected::Passes => assert!(read(&file).is_ok(), "{name}"),
             Expected::Refused { number, offset } => {
@@ -130,10 +156,22 @@ fn lawful_files_are_lawful_and_read_back() {
         (Class::WideState, 20),
         (Class::WideMaximal, 1),
         (Class::WideContested, 1),
+        (Class::StepsTiny, 2000),
+        (Class::StepsSmall, 1000),
+        (Class::StepsMid, 50),
+        (Class::StepsMaximal, 3),
+        (Class::StepsContested, 3),
+        (Class::StepsCrowded, 5),
+        (Class::WideStepsTiny, 2000),
+        (Class::WideStepsSmall, 1000),
+        (Class::WideStepsMid, 50),
+        (Class::WideStepsMany, 200),
+        (Class::WideStepsMaximal, 1),
     ] {
         for seed in 0..seeds {
             let round = lawful_round(class, seed);
             assert_eq!(round.form, class.form());
+            assert_eq!(round.policy == 2, class.has_step_lists());
             assert_eq!(read(&write(&round)), Ok(round));
         }
     }
@@ -141,10 +179,17 @@ fn lawful_files_are_lawful_and_read_back() {
 
 #[test]
 fn maximal_files_are_the_longest_lawful_ones() {
-    assert_eq!(lawful(Class::Maximal, 7).len(), LONGEST);
-    assert_eq!(lawful(Class::Contested, 7).len(), LONGEST);
-    assert_eq!(lawful(Class::WideMaximal, 7).len(), LONGEST_WIDE);
-    assert_eq!(lawful(Class::WideContested, 7).len(), LONGEST_WIDE);
+    for (class, longest) in [
+        (Class::Maximal, LONGEST_WITHOUT_STEPS),
+        (Class::Contested, LONGEST_WITHOUT_STEPS),
+        (Class::WideMaximal, LONGEST_WIDE_WITHOUT_STEPS),
+        (Class::WideContested, LONGEST_WIDE_WITHOUT_STEPS),
+        (Class::StepsMaximal, LONGEST),
+        (Class::StepsContested, LONGEST),
+        (Class::WideStepsMaximal, LONGEST_WIDE),
+    ] {
+        assert_eq!(lawful(class, 7).len(), longest, "{}", class.name());
+    }
 }
 
 #[test]
@@ -182,16 +227,70 @@ fn wide_rounds_are_contested_at_institutes_256_apart() {
 }
 
 #[test]
+fn step_lists_are_of_every_kind() {
+    let mut counts = [0; 7];
+    for round in (0..400).map(|seed| lawful_round(Class::StepsSmall, seed)) {
+        for own in &round.institutes {
+            let steps = &own.steps;
+            let hands_to = |number: usize| {
+                let receivers = steps
+                    .iter()
+                    .filter(|step| usize::from(step.receiver) == number);
+                receivers.count()
+            };
+            let through = |place: usize| {
+                let next = usize::from(steps[place].receiver);
+                next > 0 && steps[next - 1].receiver > 0
+            };
+            let again = |place: usize| {
+                let earlier = &steps[..place];
+                earlier
+                    .iter()
+                    .any(|step| step.category == steps[place].category)
+            };
+            let all = 0..steps.len();
+            let so = [
+                steps.len() == 1,
+                steps.len() == 12,
+                all.clone().any(through),
+                (1..=steps.len()).any(|number| hands_to(number) > 1),
+                all.clone().any(again),
+                steps.iter().any(|step| step.positions == 0),
+                all.clone()
+                    .any(|place| steps[place].positions == 0 && hands_to(place + 1) > 0),
+            ];
+            for (count, so) in counts.iter_mut().zip(so) {
+                *count += usize::from(so);
+            }
+        }
+    }
+    assert!(counts.iter().all(|&count| count > 200), "{counts:?}");
+}
+
+#[test]
+fn rounds_with_step_lists_are_contested() {
+    for seed in 0..3 {
+        let round = lawful_round(Class::StepsContested, seed);
+        let (offers, displaced) = offers_and_displaced(&round);
+        assert!(offers > 4000, "{offers}");
+        assert!(displaced > 1000, "{displaced}");
+    }
+}
+
+#[test]
 fn files_of_many_institutes_are_not_too_long_for_the_program() {
     assert!((0..300).all(|seed| lawful(Class::WideMany, seed).len() <= 65_536));
+    assert!((0..300).all(|seed| lawful(Class::WideStepsMany, seed).len() <= 65_536));
     assert!((0..50).all(|seed| lawful(Class::WideMid, seed).len() <= 65_536));
 }
 
 #[test]
 fn the_bytes_up_to_one_more_than_the_longest_decide() {
     for (class, longest) in [
-        (Class::Maximal, LONGEST),
-        (Class::WideMaximal, LONGEST_WIDE),
+        (Class::Maximal, LONGEST_WITHOUT_STEPS),
+        (Class::WideMaximal, LONGEST_WIDE_WITHOUT_STEPS),
+        (Class::StepsMaximal, LONGEST),
+        (Class::WideStepsMaximal, LONGEST_WIDE),
     ] {
         let mut file = lawful(class, 1);
         file.extend(vec![4; 10_000]);
@@ -229,29 +328,33 @@ fn narrow_files_are_the_same_for_the_same_seed() {
         11_967_666_898_973_958_572,
         2_992_941_131_480_379_609,
         10_399_848_015_002_328_829,
-        14_924_504_458_443_190_153,
-        13_554_006_972_104_012_721,
-        17_114_379_067_998_656_660,
+        8_081_933_901_668_218_381,
+        18_337_283_116_005_150_244,
+        16_897_060_029_321_468_606,
     ];
     assert_eq!(digests, due);
 }
 
 #[test]
 fn areas_hold_what_the_document_says_for_any_file() {
-    for seed in 0..1200 {
-        let file = match seed % 6 {
+    for seed in 0..2000 {
+        let file = match seed % 10 {
             0 => lawful(Class::Small, seed),
             1 => damaged((seed % 13) as u8 + 1, seed).file,
             2 => lawful(Class::Tiny, seed),
             3 => lawful(Class::WideSmall, seed),
             4 => wide_damaged((seed % 13) as u8 + 1, seed).file,
+            5 => lawful(Class::StepsSmall, seed),
+            6 => lawful(Class::WideStepsTiny, seed),
+            7 => steps_damaged(STEPS_QUESTIONS[(seed / 10 % 15) as usize], seed).file,
+            8 => wide_steps_damaged(STEPS_QUESTIONS[(seed / 10 % 15) as usize], seed).file,
             _ => lawful(Class::WideTiny, seed),
         };
-        let mut answer = vec![0xa5; 900];
+        let mut answer = vec![0xa5; 1100];
         let mut work = vec![0x5a; 200];
         match call_on(&file, &mut answer, &mut work) {
             Outcome::Refused { .. } => {
-                assert_eq!(answer, vec![0xa5; 900]);
+                assert_eq!(answer, vec![0xa5; 1100]);
                 assert_eq!(work, vec![0x5a; 200]);
             }
             Outcome::Allotted {
@@ -261,7 +364,8 @@ fn areas_hold_what_the_document_says_for_any_file() {
                 let round = read(&file).expect("an allotted file is lawful");
                 let (n, m) = (round.candidates.len(), round.institutes.len());
                 let each = if round.form == Form::Wide { 5 } else { 3 };
-                assert_eq!(bytes.len(), each * n + 12 * m);
+                let own = if round.policy == 2 { 24 } else { 12 };
+                assert_eq!(bytes.len(), each * n + own * m);
                 assert_eq!(answer[..bytes.len()], bytes);
                 assert!(answer[bytes.len()..].iter().all(|&byte| byte == 0xa5));
                 assert!(work[..8 * n].iter().all(|&byte| byte == 0));

@@ -27,7 +27,7 @@ fn from_hex(text: &str) -> Vec<u8> {
 
 #[test]
 fn all_rounds_are_there() {
-    assert_eq!(names().len(), 59);
+    assert_eq!(names().len(), 85);
 }
 
 #[test]

@@ -11,17 +11,17 @@ static unsigned two_bytes(const uint8_t *at) {
     return at[0] + 256u * at[1];
 }
 
-/* The lines below the offers: candidate, institute, step, type; then each institute with its six closing places. A seat has four
-   bytes in a wide round, the institute in two of them, and else two. */
-static void print_answer(const uint8_t *answer, int wide, unsigned n, unsigned m) {
-    const uint8_t *seat = answer, *place = answer + (wide ? 4 : 2) * n, *types = place + 12 * m;
+/* The lines below the offers: candidate, institute, step, type; then each institute with its closing places, so many of them. A seat
+   has four bytes in a wide round, the institute in two of them, and else two. */
+static void print_answer(const uint8_t *answer, int wide, unsigned places, unsigned n, unsigned m) {
+    const uint8_t *seat = answer, *place = answer + (wide ? 4 : 2) * n, *types = place + 2 * places * m;
     for (unsigned candidate = 0; candidate < n; candidate++, seat += wide ? 4 : 2) {
         unsigned institute = wide ? two_bytes(seat) : seat[0];
         printf("%u %u %u %u\n", candidate + 1, institute, seat[wide ? 2 : 1], types[candidate]);
     }
     for (unsigned institute = 0; institute < m; institute++) {
         printf("closing %u", institute + 1);
-        for (unsigned step = 0; step < 6; step++, place += 2) {
+        for (unsigned step = 0; step < places; step++, place += 2) {
             printf(" %u", two_bytes(place));
         }
         printf("\n");
@@ -45,7 +45,8 @@ int main(int count, char **words) {
         return 0;
     }
     printf("offers %" PRIu64 "\n", result[1]);
-    /* The file passed, so its head tells the form, 5 for wide, and n and m. */
-    print_answer(answer, two_bytes(file + 2) == 5, two_bytes(file + 4), two_bytes(file + 6));
+    /* The file passed, so its head tells the form, 5 for wide, n and m, and the policy, which is 2 where institutes list their steps. */
+    unsigned places = two_bytes(file + 10) == 2 ? 12 : 6;
+    print_answer(answer, two_bytes(file + 2) == 5, places, two_bytes(file + 4), two_bytes(file + 6));
     return 0;
 }

@@ -16,19 +16,19 @@ fn seat_of(seat: &[u8]) -> (usize, u8) {
     }
 }
 
-/// The lines below the offers: candidate, institute, step, type; then each institute with its six closing places.
-fn print_answer(answer: &[u8], wide: bool, n: usize, m: usize) {
+/// The lines below the offers: candidate, institute, step, type; then each institute with its closing places, so many of them.
+fn print_answer(answer: &[u8], wide: bool, places: usize, n: usize, m: usize) {
     let width = if wide { 4 } else { 2 };
     let (seats, rest) = answer.split_at(width * n);
-    let (closing, types) = rest.split_at(12 * m);
+    let (closing, types) = rest.split_at(2 * places * m);
     for (candidate, seat) in seats.chunks(width).enumerate() {
         let (institute, step) = seat_of(seat);
         println!("{} {institute} {step} {}", candidate + 1, types[candidate]);
     }
-    for (institute, places) in closing.chunks(12).enumerate() {
+    for (institute, own) in closing.chunks(2 * places).enumerate() {
         print!("closing {}", institute + 1);
-        for step in 0..6 {
-            print!(" {}", two_bytes(places, 2 * step));
+        for step in 0..places {
+            print!(" {}", two_bytes(own, 2 * step));
         }
         println!();
     }
@@ -47,10 +47,11 @@ fn main() -> ExitCode {
     let said = allot(&file, &mut answer, &mut work);
     println!("{said}");
     match said {
-        // The file passed, so its head tells the form, 5 for wide, and n and m.
+        // The file passed, so its head tells the form, 5 for wide, n and m, and the policy, which is 2 where institutes list their steps.
         Answer::Allotted { .. } => {
-            let [kind, n, m] = [2, 4, 6].map(|at| two_bytes(&file, at));
-            print_answer(&answer, kind == 5, n, m);
+            let [kind, n, m, policy] = [2, 4, 6, 10].map(|at| two_bytes(&file, at));
+            let places = if policy == 2 { 12 } else { 6 };
+            print_answer(&answer, kind == 5, places, n, m);
         }
         Answer::Refused(refusal) => eprintln!("{}", refusal.meaning()),
     }

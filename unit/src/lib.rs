@@ -30,9 +30,28 @@
 //! # Ok::<(), std::io::Error>(())
 //! ```
 //!
+//! Under policy 2 each institute lists its own steps, up to twelve, and steps are numbered as listed. Each institute then has twelve
+//! closing places, 0 beyond its steps, in both forms: the types stand 24m bytes behind the seats, for m institutes.
+//!
+//! ```
+//! let file = [
+//!     8, 0, 1, 0, 1, 0, 1, 0, 0, 0, 2, 0, // a candidate, an institute, no types, policy 2
+//!     8, 0, 7, 0, 4, 2, 1, 0, 0, 0, 0, 0, // EWS with one position, its vacancies to step 2; open with none of its own
+//!     4, 0, 3, 0, 0, 0, 1, 0, // the candidate, general, lists open at institute 1
+//!     2, 0, 4, 0, 1, 0, // and stands on its merit list
+//! ];
+//! let mut answer = [0; tazbilk::steps_answer_size(1, 1)];
+//! println!("{}", tazbilk::allot(&file, &mut answer, &mut [0; 8])); // offers 1
+//! println!("candidate 1: institute {}, step {}", answer[0], answer[1]); // institute 1, step 2
+//! let places = answer[2..26].chunks(2).map(|two| u16::from_le_bytes([two[0], two[1]]));
+//! println!("closing places: {places:?}", places = places.collect::<Vec<_>>()); // 0, 1, and ten more that are 0
+//! # assert_eq!((&answer[..2], &answer[2..6], &answer[6..]), (&[1, 2][..], &[0, 0, 1, 0][..], &[0; 21][..]));
+//! ```
+//!
 //! A list of seats that was made elsewhere, two bytes for each candidate, institute and step (0 0 for none), can be reviewed: it passes
 //! just where it is stable, and otherwise what is found first is named. For a wide round the list has four bytes for each candidate,
-//! as the seats in its answer area; a seat with another last byte than 0 counts as not in the row.
+//! as the seats in its answer area; a seat with another last byte than 0 counts as not in the row. Under policy 2 so does a seat whose
+//! step the institute does not list.
 //!
 //! ```
 //! use tazbilk::Judgement;
@@ -59,5 +78,6 @@ pub use answer::Answer;
 pub use judgement::Judgement;
 pub use refusal::Refusal;
 pub use reviewing::review;
-pub use sizes::{answer_size, list_size, wide_answer_size, wide_list_size, work_size};
+pub use sizes::{answer_size, list_size, steps_answer_size, work_size};
+pub use sizes::{wide_answer_size, wide_list_size, wide_steps_answer_size};
 pub use sizes::{ANSWER_MOST, FILE_MOST, LIST_MOST, WORK_MOST};

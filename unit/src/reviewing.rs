@@ -4,7 +4,7 @@ use crate::boundary::tazbilk_review;
 use crate::judgement::Judgement;
 
 /// Reviews a list of seats for a round file of either form; the judgement and what the work area holds afterwards are fixed for every
-/// file and list by requests 5 and 6 of document 02.
+/// file and list by requests 5, 6 and 7 of document 02.
 pub fn review(file: &[u8], list: &[u8], work: &mut [u8]) -> Judgement {
     let mut result = [0; 4];
     // SAFETY: the unit reads the file and the list and writes the work area and the result within the lengths given, keeps none of them, and asks for nothing else.

@@ -4,6 +4,7 @@ pub mod AreaSeats
 pub mod Accepting
 pub mod Bodies
 pub mod AlikeRounds
+pub mod AsLists
 pub mod Promised
 pub mod Returns
 pub mod Closing

@@ -1,4 +1,4 @@
--- What a call answers and what it leaves in both areas (document 01, "The questions, in order" and "Offers"; document 02, Points 3 and 6), for
+-- What a call answers and what it leaves in both areas (document 01, "The questions, in order" and "Offers"; document 02, Points 3, 6 and 7), for
 -- every input.
 use Prim.Native.Nat.{ℕ}
 use mathlib.Core.Path.{_≡_}

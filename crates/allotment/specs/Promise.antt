@@ -1,11 +1,11 @@
 -- The promise of the public call: demands 1, 2 and 3 of the letter, for every input, with the closing places of document 02, Point 1, that any
 -- order of offers ends, with the offers, seats and steps of the list, its Point 2, and the types used, its Point 3, for files of both forms, its
--- Point 6. That no call reads outside the file, goes wrong or fails to finish is part of what it is for a function to be proved.
+-- Point 6, and of all three policies, its Point 7. That no call reads outside the file, goes wrong or fails to finish is part of what it is for a function to be proved.
 use mathlib.Core.Path.{_≡_}
-use Prim.Native.Nat.{ℕ}
+use Prim.Native.Nat.{ℕ, _≤_}
 use mathlib.Core.List.{List}
 use lib.ListN.{length}
-use Rattle.round.specs.Records.{formOf}
+use Rattle.round.specs.Records.{formOf, headOf}
 use Rattle.round.specs.Reading.{roundOf}
 use Rattle.allotment.specs.declared.Answer.{Answer}
 use Rattle.offers.specs.Process.{candidateCount}
@@ -13,6 +13,7 @@ use Rattle.offers.specs.Areas.{seatsIn}
 use Rattle.allotment.specs.Outcome.{outcomeOf, outcome, answerAfter, workAfter, Accepted}
 use Rattle.allotment.specs.Truthful.{Truthful}
 use Rattle.allotment.specs.Types.{Published}
+use Rattle.allotment.specs.Rewritten.{AlikeAsLists}
 use Rattle.offers.specs.Ended.{AtEnd}
 use Rattle.offers.specs.Orders.{AnyOrder}
 use Rattle.offers.specs.Stable.{Stable}
@@ -28,3 +29,5 @@ pub record Promise (file answer work : List ℕ) (result : Answer) (answerNow wo
   pub process : Accepted file answer work → AtEnd (roundOf file)
   pub anyOrder : Accepted file answer work → AnyOrder (roundOf file)
   pub types : Accepted file answer work → Published (formOf file) (roundOf file) answerNow
+  -- the steps of policies 0 and 1, written as lists, seat everyone alike
+  pub asLists : Accepted file answer work → headOf file .policy ≤ 1 → AlikeAsLists file

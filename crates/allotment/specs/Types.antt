@@ -15,6 +15,6 @@ use Rattle.offers.specs.Areas.{seatIn}
 -- choice from all offers ever made to it; beside no seat stands 0; and these accounts have the first placings
 pub record Published (form : Form) (r : Round) (area : List ℕ) : Type 0 where
   pub seated : (i j k : ℕ) → i < candidateCount r → seatIn form area i ≡ record { institute = suc j; step = suc k }
-      → typeStanding form (candidateCount r) (instituteCount r) area i ≡ typeUsed (accountOf (accountAtEnd r j) (suc k)) (placeOn r j i)
-  pub unseated : (i : ℕ) → i < candidateCount r → seatIn form area i ≡ noSeat → typeStanding form (candidateCount r) (instituteCount r) area i ≡ 0
+      → typeStanding form (r .stepsListed) (candidateCount r) (instituteCount r) area i ≡ typeUsed (accountOf (accountAtEnd r j) (suc k)) (placeOn r j i)
+  pub unseated : (i : ℕ) → i < candidateCount r → seatIn form area i ≡ noSeat → typeStanding form (r .stepsListed) (candidateCount r) (instituteCount r) area i ≡ 0
   pub first : FirstTypes r

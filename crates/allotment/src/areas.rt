@@ -1,8 +1,11 @@
 // The bytes of the answer area: the seats, then the closing places, then the types used.
 use crate::closing::closing_places;
+use crate::sizes::closing_count;
+use crate::sizes::closing_width;
 use round::form::Form;
 use round::form::seats_size;
 use round::head::Head;
+use round::head::own_steps;
 use round::word::long;
 ghost use mathlib.Core.Path.{_≡_};
 ghost use mathlib.Core.List.{_++_};
@@ -12,10 +15,11 @@ ghost use lib.ListN.{length, drop};
 ghost use lib.Seq.{sets};
 ghost use Rattle.round.specs.Form.{institutesMost, seatWidth};
 ghost use Rattle.round.specs.Lists.{tabulate, joined};
-ghost use Rattle.round.specs.Records.{formOf, headOf};
+ghost use Rattle.round.specs.Records.{formOf, headOf, ownSteps};
+ghost use Rattle.round.specs.Read.{asHead};
 ghost use Rattle.round.specs.Reading.{roundOf};
 ghost use Rattle.offers.specs.Areas.{wordBytes, seatBytes};
-ghost use Rattle.allotment.specs.Areas.{closingBytes, answerBytes, answerSize};
+ghost use Rattle.allotment.specs.Areas.{closingWidth, closingBytes, answerBytes, answerSize};
 ghost use Rattle.allotment.specs.Writing.{heldBytes, HoldersFew, AnswerKnown, ClosingKnown};
 
 // A two-byte number, little-endian.
@@ -70,7 +74,7 @@ fn write_seats(form: Form, holders: &[u16], steps: &[u8], area: &mut [u8])
     }
 }
 
-// The six closing places of institute j, from a byte on.
+// The closing places of institute j, so many as there are, from a byte on.
 fn write_institute(
     file: &[u8],
     merits: &[usize],
@@ -78,16 +82,18 @@ fn write_institute(
     steps: &[u8],
     types: &[u8],
     j: usize,
+    listed: bool,
     area: &mut [u8],
     at: usize,
 )
     requires { ⌜ ClosingKnown (now file) (now merits) (now holders) (now steps) (now types) ⌝ }
-    requires { ⌜ j < headOf (now file) .institutes ⌝ }
-    requires { ⌜ at + 12 ≤ length (now area) ⌝ }
+    requires { ⌜ (j < headOf (now file) .institutes) × (listed ≡ roundOf (now file) .stepsListed) ⌝ }
+    requires { ⌜ at + closingWidth listed ≤ length (now area) ⌝ }
     ensures { λ _. ⌜ now (area .exit) ≡ sets (now (area .entry)) at (closingBytes (roundOf (now (file .entry))) j) ⌝ }
 {
     let places = closing_places(file, merits, holders, steps, types, j);
-    for k in 0..6 {
+    let count = closing_count(listed);
+    for k in 0..count {
         write_word(area, at + 2 * k, places[k]);
     }
 }
@@ -95,7 +101,7 @@ fn write_institute(
 // The closing places of every institute, from a byte on.
 fn write_closings(
     file: &[u8],
-    institutes: usize,
+    h: Head,
     merits: &[usize],
     holders: &[u16],
     steps: &[u8],
@@ -103,14 +109,25 @@ fn write_closings(
     area: &mut [u8],
     at: usize,
 )
-    requires { ⌜ ClosingKnown (now file) (now merits) (now holders) (now steps) (now types) ⌝ }
-    requires { ⌜ institutes ≡ headOf (now file) .institutes ⌝ }
-    requires { ⌜ at + 12 * institutes ≤ length (now area) ⌝ }
+    requires { ⌜ AnswerKnown (now file) h (now merits) (now holders) (now steps) (now types) ⌝ }
+    requires { ⌜ at + closingWidth (ownSteps (asHead h)) * h .institutes ≤ length (now area) ⌝ }
     ensures { λ _. ⌜ now (area .exit)
-        ≡ sets (now (area .entry)) at (joined (tabulate institutes (closingBytes (roundOf (now (file .entry)))))) ⌝ }
+        ≡ sets (now (area .entry)) at (joined (tabulate (h .institutes) (closingBytes (roundOf (now (file .entry)))))) ⌝ }
 {
-    for j in 0..institutes {
-        write_institute(file, merits, holders, steps, types, j, area, at + 12 * j);
+    let listed = own_steps(h);
+    let width = closing_width(listed);
+    for j in 0..h.institutes {
+        write_institute(
+            file,
+            merits,
+            holders,
+            steps,
+            types,
+            j,
+            listed,
+            area,
+            at + width * j,
+        );
     }
 }
 
@@ -143,15 +160,7 @@ pub fn write_answer(
     let form = h.form;
     let closings = seats_size(form, holders.len());
     write_seats(form, holders, steps, answer);
-    write_closings(
-        file,
-        h.institutes,
-        merits,
-        holders,
-        steps,
-        types,
-        answer,
-        closings,
-    );
-    write_types(types, answer, closings + 12 * h.institutes);
+    write_closings(file, h, merits, holders, steps, types, answer, closings);
+    let placed = closings + closing_width(own_steps(h)) * h.institutes;
+    write_types(types, answer, placed);
 }

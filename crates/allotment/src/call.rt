@@ -1,6 +1,7 @@
 // The public call: a round file in, the answer out, both lent areas written.
 use crate::Answer;
 use crate::areas::write_answer;
+use crate::sizes::answer_size;
 use offers::process::run_offers;
 use offers::table::nobody;
 use offers::types::note_types;
@@ -9,6 +10,7 @@ use round::clearing::zeros;
 use round::form::Form;
 use round::form::form_of;
 use round::head::Head;
+use round::head::own_steps;
 use round::reader::Reading;
 use round::reader::candidate_table;
 use round::reader::narrow_table;
@@ -16,14 +18,14 @@ use round::reader::read_round;
 use round::reader::wide_table;
 ghost use mathlib.Core.Path.{_≡_};
 ghost use mathlib.Core.List.{_++_};
-ghost use Prim.Native.Nat.{_≤_};
+ghost use Prim.Native.Nat.{_*_, _≤_};
 ghost use lib.ListN.{length, drop, replicate};
 ghost use Rattle.round.specs.declared.form.Form.the-variants.{Narrow, Wide};
 ghost use Rattle.round.specs.Form.{institutesMost};
 ghost use Rattle.round.specs.Records.{formOf};
 ghost use Rattle.round.specs.Reading.{roundOf};
 ghost use Rattle.offers.specs.Process.{offersMade};
-ghost use Rattle.allotment.specs.Areas.{sizeFor, answerBytes, answerSize};
+ghost use Rattle.allotment.specs.Areas.{answerBytes, answerSize};
 ghost use Rattle.allotment.specs.Promise.{Promise};
 ghost use Rattle.offers.specs.Held.{AtHand};
 ghost use Rattle.allotment.specs.Handing.{refusedBy};
@@ -66,17 +68,6 @@ fn seat_all(
     offers
 }
 
-// The bytes of the answer area that question 14 asks for.
-fn answer_size(form: Form, n: usize, m: usize) -> usize
-    requires { ⌜ (n ≤ 512) × (m ≤ 1000) ⌝ }
-    ensures { λ r. ⌜ r ≡ sizeFor form n m ⌝ }
-{
-    match form {
-        Form::Narrow => 3 * n + 12 * m,
-        Form::Wide => 5 * n + 12 * m,
-    }
-}
-
 // Question 14, and the allotment of a round that was read.
 fn allot_round(
     file: &[u8],
@@ -92,7 +83,7 @@ fn allot_round(
     let n = h.candidates;
     let m = h.institutes;
     let form = h.form;
-    if answer.len() < answer_size(form, n, m) {
+    if answer.len() < answer_size(form, own_steps(h), n, m) {
         return Answer::Refused {
             number: 14,
             offset: 0,
@@ -121,9 +112,9 @@ fn allot_round(
     Answer::Allotted(offers)
 }
 
-// The allotment of a round file, with a table that has room for its merit lists.
+// The allotment of a round file, with a table that has room for its merit lists and its institutes.
 fn allot_with(file: &[u8], merits: &mut [usize], answer: &mut [u8], work: &mut [u8]) -> Answer
-    requires { ⌜ institutesMost (formOf (now file)) ≤ length (now merits) ⌝ }
+    requires { ⌜ 2 * institutesMost (formOf (now file)) ≤ length (now merits) ⌝ }
     ensures { λ r. ⌜ Promise (now (file .entry)) (now (answer .entry)) (now (work .entry)) r (now (answer .exit)) (now (work .exit)) ⌝ }
 {
     let mut candidates = candidate_table();

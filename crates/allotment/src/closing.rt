@@ -8,7 +8,7 @@ ghost use Prim.Native.Nat.{max, _≤_, _<_};
 ghost use lib.ListN.{length, replicate};
 ghost use Rattle.round.specs.Records.{headOf};
 ghost use Rattle.round.specs.Reading.{roundOf};
-ghost use Rattle.allotment.specs.Areas.{closingPlaces};
+ghost use Rattle.allotment.specs.Areas.{placesTo};
 ghost use Rattle.allotment.specs.Writing.{meritStep, withPlace, ClosingKnown};
 
 // The step at which an institute holds a candidate, from 0, under no type; else 0.
@@ -26,10 +26,10 @@ fn merit_step(holders: &[u16], steps: &[u8], types: &[u8], i: usize, institute: 
 }
 
 // Nobody came in by merit at any step.
-fn no_places() -> [usize; 6]
-    ensures { λ r. ⌜ r ≡ replicate 6 0 ⌝ }
+fn no_places() -> [usize; 12]
+    ensures { λ r. ⌜ r ≡ replicate 12 0 ⌝ }
 {
-    [0usize; 6]
+    [0usize; 12]
 }
 
 // The larger of two places.
@@ -49,7 +49,7 @@ fn keep_place(places: &mut [usize], step: usize, place: usize)
     }
 }
 
-// The closing places of institute j, from 0.
+// The closing places of institute j, from 0, at twelve steps.
 pub fn closing_places(
     file: &[u8],
     merits: &[usize],
@@ -57,10 +57,10 @@ pub fn closing_places(
     steps: &[u8],
     types: &[u8],
     j: usize,
-) -> [usize; 6]
+) -> [usize; 12]
     requires { ⌜ ClosingKnown (now file) (now merits) (now holders) (now steps) (now types) ⌝ }
     requires { ⌜ j < headOf (now file) .institutes ⌝ }
-    ensures { λ r. ⌜ r ≡ closingPlaces (roundOf (now (file .entry))) j ⌝ }
+    ensures { λ r. ⌜ r ≡ placesTo 12 (roundOf (now (file .entry))) j ⌝ }
 {
     let count = merit_length(file, merits, j);
     let mut places = no_places();

@@ -2,6 +2,7 @@
 mod areas;
 mod call;
 mod closing;
+pub mod sizes;
 
 pub use call::allot;
 

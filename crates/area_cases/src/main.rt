@@ -1,5 +1,5 @@
-// File A in both forms with lent areas of several lengths, full of other bytes beforehand: what the call answers, and every byte of both areas
-// afterwards.
+// File A in both forms, and with its steps written as a list, with lent areas of several lengths, full of other bytes beforehand: what the call answers,
+// and every byte of both areas afterwards.
 use allotment::Answer;
 use libc::STDOUT_FILENO;
 use round::word::wide;
@@ -50,10 +50,10 @@ fn area(bytes: &[u8]) {
 }
 
 // An answer area with room to spare.
-fn answer_room() -> [u8; 30]
-    ensures { λ r. ⌜ length r ≡ 30 ⌝ }
+fn answer_room() -> [u8; 40]
+    ensures { λ r. ⌜ length r ≡ 40 ⌝ }
 {
-    [170; 30]
+    [170; 40]
 }
 
 // A work area with room to spare.
@@ -76,7 +76,7 @@ fn shown(file: &[u8], answer: &mut [u8], work: &mut [u8], answering: usize, work
 
 // Makes both rooms and shows a call with their first bytes.
 fn show(file: &[u8], answering: usize, working: usize)
-    requires { ⌜ answering ≤ 30 ⌝ }
+    requires { ⌜ answering ≤ 40 ⌝ }
     requires { ⌜ working ≤ 32 ⌝ }
 {
     let mut answer = answer_room();
@@ -86,7 +86,7 @@ fn show(file: &[u8], answering: usize, working: usize)
 
 // File A.
 fn file_a(answering: usize, working: usize)
-    requires { ⌜ answering ≤ 30 ⌝ }
+    requires { ⌜ answering ≤ 40 ⌝ }
     requires { ⌜ working ≤ 32 ⌝ }
 {
     show(
@@ -98,7 +98,7 @@ fn file_a(answering: usize, working: usize)
 
 // File A in the wide form.
 fn wide_a(answering: usize, working: usize)
-    requires { ⌜ answering ≤ 30 ⌝ }
+    requires { ⌜ answering ≤ 40 ⌝ }
     requires { ⌜ working ≤ 32 ⌝ }
 {
     show(
@@ -108,9 +108,21 @@ fn wide_a(answering: usize, working: usize)
     );
 }
 
+// File A with its steps written as a list.
+fn list_a(answering: usize, working: usize)
+    requires { ⌜ answering ≤ 40 ⌝ }
+    requires { ⌜ working ≤ 32 ⌝ }
+{
+    show(
+        b"\x08\x00\x01\x00\x03\x00\x01\x00\x01\x00\x02\x00\x24\x00\x07\x00\x00\x00\x01\x00\x01\x00\x01\x00\x00\x00\x00\x00\x02\x00\x00\x00\x00\x00\x03\x06\x01\x00\x00\x00\x04\x00\x00\x00\x00\x00\x00\x00\x00\x00\x00\x00\x04\x00\x03\x00\x00\x00\x01\x00\x06\x00\x03\x00\x03\x00\x01\x00\x01\x03\x04\x00\x03\x00\x00\x01\x01\x00\x06\x00\x04\x00\x01\x00\x02\x00\x03\x00",
+        answering,
+        working,
+    );
+}
+
 // File A without its last byte.
 fn cut(answering: usize, working: usize)
-    requires { ⌜ answering ≤ 30 ⌝ }
+    requires { ⌜ answering ≤ 40 ⌝ }
     requires { ⌜ working ≤ 32 ⌝ }
 {
     show(
@@ -127,11 +139,15 @@ fn main() {
     file_a(21, 24);
     file_a(21, 23);
     file_a(22, 26);
-    file_a(30, 32);
+    file_a(40, 32);
     // 5n + 12m = 27 for file A in the wide form
     wide_a(26, 24);
     wide_a(27, 24);
-    wide_a(30, 32);
+    wide_a(40, 32);
+    // 3n + 24m = 33 for file A with its steps written as a list
+    list_a(32, 24);
+    list_a(33, 24);
+    list_a(40, 32);
     // a refused file
-    cut(30, 32);
+    cut(40, 32);
 }

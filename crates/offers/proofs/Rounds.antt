@@ -12,6 +12,7 @@ pub mod Counted
 pub mod Process
 pub mod AtEnd
 pub mod SeatsFew
+pub mod SameInstitutes
 pub mod Standing
 pub mod Given
 pub mod Below

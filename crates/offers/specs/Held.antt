@@ -7,7 +7,7 @@ use Rattle.round.specs.declared.head.Head.{Head}
 use Rattle.round.specs.Records.{headOf}
 use Rattle.round.specs.Refusal.{verdict, passes}
 use Rattle.round.specs.Read.{asHead}
-use Rattle.round.specs.Outcome.{CandidateStarts, MeritStarts}
+use Rattle.round.specs.Outcome.{CandidateStarts, MeritStarts, InstituteStarts}
 use Rattle.offers.specs.Process.{Seat, noSeat}
 
 -- the file is not refused, and its head and the starts of its records are at hand
@@ -16,6 +16,7 @@ pub record AtHand (file : List ℕ) (h : Head) (candidates merits : List ℕ) : 
   pub head : asHead h ≡ headOf file
   pub candidate-starts : CandidateStarts file candidates
   pub merit-starts : MeritStarts file merits
+  pub institute-starts : InstituteStarts file merits
 
 -- two arrays hold a list of seats: the institute and the step of each candidate
 pub record HeldIn (list : List Seat) (holders steps : List ℕ) : Type 0 where

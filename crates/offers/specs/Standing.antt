@@ -5,12 +5,14 @@ use lib.Dec.{ltb}
 use lib.ListN.{length}
 use Rattle.round.specs.Questions.{within}
 use Rattle.round.specs.Round.{Round}
+use Rattle.round.specs.Places.{stepNumbers}
 use Rattle.offers.specs.Rows.{rowAt, rankIn, entryOf, categoryAt}
 use Rattle.offers.specs.Process.{Seat, isNone, instituteCount}
 
--- the seat names an institute of the round and a step from 1 to 6 (document 02, Point 5), whether or not its institute has a step 6
+-- the seat names an institute of the round and one of its steps (document 02, Points 5 and 7): a listed one where the institutes list their own
+-- steps, else one from 1 to 6, under policy 0 too
 unfoldable pub isStep : Round → Seat → Bool
-isStep r s = within 1 (instituteCount r) (s .institute) && within 1 6 (s .step)
+isStep r s = within 1 (instituteCount r) (s .institute) && within 1 (stepNumbers r (s .institute - 1)) (s .step)
 
 -- the place in candidate i's row of the entry that a seat stands for; the row's length where the row has it not
 unfoldable pub seatRank : Round → ℕ → Seat → ℕ

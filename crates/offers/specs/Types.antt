@@ -1,20 +1,21 @@
 -- The types used when the process has ended: each institute chooses once more, from its seats. By law it uses the types that it uses when it
 -- chooses from all offers ever made to it.
-use Prim.Native.Nat.{ℕ, suc, _-_, _^_, _<_}
+use Prim.Native.Nat.{ℕ, suc, _^_, _<_}
 use mathlib.Core.Path.{_≡_}
 use mathlib.Core.Logic.{_≢_}
 use mathlib.Core.List.{List}
 use lib.ListN.{length, getD}
-use Rattle.round.specs.Category.{codeOf, categoryOf}
+use Rattle.round.specs.Category.{codeOf}
 use Rattle.round.specs.Round.{Round}
+use Rattle.offers.specs.Rows.{categoryAt}
 use Rattle.offers.specs.Offers.{typeFor}
 use Rattle.offers.specs.Process.{candidateCount, madeTo, tried}
 use Rattle.offers.specs.Sweeps.{offerTo, offersBy, PutFor}
 
--- a table has for each of the first k candidates who has a step the set of the step's category; step 6 has number 5 there, which is open
-pub record SeatsWanted (k : ℕ) (steps wanted : List ℕ) : Type 0 where
+-- a table has for each of the first k candidates who has a holder the set of the category of the step there
+pub record SeatsWanted (r : Round) (k : ℕ) (holders steps wanted : List ℕ) : Type 0 where
   pub many : length wanted ≡ length steps
-  pub at : (i : ℕ) → i < k → getD steps i 0 ≢ 0 → getD wanted i 0 ≡ 2 ^ codeOf (categoryOf (getD steps i 0 - 1))
+  pub at : (i j : ℕ) → i < k → getD holders i 0 ≡ suc j → getD wanted i 0 ≡ 2 ^ codeOf (categoryAt r j (getD steps i 0))
 
 -- institute j has chosen from its seats, and the types that it used are noted
 abbrev pub TypesAnew : Round → ℕ → List ℕ → List ℕ → List ℕ → List ℕ → Type 0

@@ -51,8 +51,8 @@ pub fn choose_listed(
         &mut marks,
         &mut offers,
     );
-    let body = institute_body(file, h, j);
-    let count = rules_of(body, h.types, h.policy, &mut rules);
+    let body = institute_body(file, h, merits, j);
+    let count = rules_of(body, h, &mut rules);
     choose(
         &rules,
         h.types,

@@ -4,10 +4,12 @@ use crate::choosing::choose_listed;
 use crate::offering::only;
 use crate::scatter::scatter;
 use crate::table::nobody;
+use round::access::step_category;
 use round::clearing::clear;
 use round::clearing::zeros;
-use round::entry::step_category;
 use round::head::Head;
+use round::word::long;
+use round::word::wide;
 ghost use mathlib.Core.Path.{_≡_};
 ghost use Prim.Native.Nat.{_<_};
 ghost use lib.ListN.{length};
@@ -17,14 +19,26 @@ ghost use Rattle.offers.specs.Held.{AtHand, HeldIn};
 ghost use Rattle.offers.specs.Types.{SeatsWanted, TypesAnew};
 
 // The set of the category of each seat's step.
-fn seats_wanted(steps: &[u8], wanted: &mut [u8])
+fn seats_wanted(
+    file: &[u8],
+    h: Head,
+    candidates: &[usize],
+    merits: &[usize],
+    holders: &[u16],
+    steps: &[u8],
+    wanted: &mut [u8],
+)
+    requires { ⌜ AtHand (now file) h (now candidates) (now merits) ⌝ }
+    requires { ⌜ HeldIn (seats (roundOf (now file))) (now holders) (now steps) ⌝ }
     requires { ⌜ length (now wanted) ≡ length (now steps) ⌝ }
-    ensures { λ _. ⌜ SeatsWanted (length (now (steps .entry))) (now (steps .entry)) (now (wanted .exit)) ⌝ }
+    ensures { λ _. ⌜ SeatsWanted (roundOf (now (file .entry))) (length (now (steps .entry)))
+        (now (holders .entry)) (now (steps .entry)) (now (wanted .exit)) ⌝ }
 {
     for i in 0..steps.len() {
-        let step = steps[i];
-        if step != 0 {
-            wanted[i] = only(step_category(step));
+        let number = long(holders[i]);
+        if number != 0 {
+            let category = step_category(file, h, merits, number - 1, wide(steps[i]));
+            wanted[i] = only(category);
         }
     }
 }
@@ -83,7 +97,15 @@ pub fn note_types(
     let n = h.candidates;
     clear(types, n);
     let mut wanted = zeros();
-    seats_wanted(steps, &mut wanted[..n]);
+    seats_wanted(
+        file,
+        h,
+        candidates,
+        merits,
+        holders,
+        steps,
+        &mut wanted[..n],
+    );
     for j in 0..h.institutes {
         type_anew(file, h, candidates, merits, j, holders, &wanted[..n], types);
     }

@@ -1,6 +1,7 @@
 -- The page of an accepted file: its head is there, the page fits, and what is read off its answer area is the page of its round.
 use Prim.Native.Nat.{ℕ, _<_, _≤_}
 use mathlib.Core.Path.{_≡_, sym, ap, ap₂, _∙_}
+use mathlib.Core.Bool.{Bool}
 use mathlib.Core.List.{List}
 use native.Mathlib.Omega.{arith}
 use lib.ListN.{length, getD, take, drop, length-append}
@@ -8,13 +9,13 @@ use mir.Syntax.{w8, w64}
 use mir.Val as val
 use Rattle.round.specs.declared.head.Head.{Head as CodeHead}
 use Rattle.round.specs.declared.form.Form.{Form}
-use Rattle.round.specs.Records.{Head, headIn, headOf, formOf, lengthAt}
+use Rattle.round.specs.Records.{Head, headIn, headOf, ownSteps, formOf, lengthAt}
 use Rattle.round.specs.Reading.{roundOf}
 use Rattle.round.specs.Read.{asHead, InRange}
 use Rattle.round.proofs.Answers as answers
 use Rattle.round.proofs.Forms.{institutes-few}
 use Rattle.round.proofs.Passed.{passed}
-use Rattle.round.proofs.Sound.{head-fits, sound, length-candidates, length-institutes}
+use Rattle.round.proofs.Sound.{head-fits, sound, listed-round, length-candidates, length-institutes}
 use Rattle.offers.specs.Process.{candidateCount, instituteCount}
 use Rattle.allotment.specs.Areas.{sizeFor, answerBytes}
 use Rattle.offers.specs.Areas.{seatIn}
@@ -56,35 +57,40 @@ module _ {file : List ℕ} {offers : ℕ} {answer : List ℕ} (known : Answered 
     pub institutes-most : h .institutes ≤ 1000
     institutes-most = omega (arith, range .institutes-most, institutes-few (h .form))
 
-    pub answer-there : sizeFor form (h .candidates) (h .institutes) ≤ length answer
-    answer-there =
-        rw (formed, candidates-many, institutes-many)
-        (omega (
-          arith,
-          ap length (known .stands),
-          length-append (answerBytes (formOf file) (roundOf file)) (known .rest),
-          length-answer (formOf file) (roundOf file),
-        ))
-
-    seats-few : (i : ℕ) → i < h .candidates → (seatIn form answer i .institute < 10000) × (seatIn form answer i .step < 10)
+    seats-few : (i : ℕ) → i < h .candidates → (seatIn form answer i .institute < 10000) × (seatIn form answer i .step < 100)
     seats-few i l =
         rw (formed, known .stands)
         (digits-few (formOf file) (roundOf file) (sound file (known .accepted)) (known .rest) i (omega (arith, candidates-many)))
 
-    pub page-fits : {area : List ℕ} → 57344 ≤ length area → val.Fits w64 offers → ((i : ℕ) → val.Fits w8 (getD answer i 0))
-        → Fits area 0 (pageIn form offers (h .candidates) (h .institutes) answer)
-    page-fits l few bytes = record {
-      room = omega (
-        arith,
-        page-short answer (λ i. omega (arith, bytes i)) form candidates-most institutes-most seats-few offers (omega arith),
-      );
-    }
+    -- whether the institutes list their own steps
+    module _ {listed : Bool} (told : listed ≡ ownSteps (asHead h)) where
+      same-listed : listed ≡ roundOf file .stepsListed
+      same-listed = told ∙ ap ownSteps same-head ∙ sym (listed-round file)
 
-    page-read : pageIn form offers (h .candidates) (h .institutes) answer ≡ page (roundOf file)
-    page-read =
-        rw (formed, known .counted, candidates-many, institutes-many, known .stands)
-        (page-stands (formOf file) (roundOf file) (sound file (known .accepted)) (known .rest))
+      pub answer-there : sizeFor form listed (h .candidates) (h .institutes) ≤ length answer
+      answer-there =
+          rw (formed, same-listed, candidates-many, institutes-many)
+          (omega (
+            arith,
+            ap length (known .stands),
+            length-append (answerBytes (formOf file) (roundOf file)) (known .rest),
+            length-answer (formOf file) (roundOf file),
+          ))
 
-    pub answered-front : {area now : List ℕ} {size : ℕ} → 57344 ≤ length area → val.Fits w64 offers → ((i : ℕ) → val.Fits w8 (getD answer i 0))
-        → Put area 0 (pageIn form offers (h .candidates) (h .institutes) answer) now size → Front area (page (roundOf file)) now size
-    answered-front l few bytes p = rw page-read at (front-put (page-fits l few bytes) p)
+      pub page-fits : {area : List ℕ} → 94208 ≤ length area → val.Fits w64 offers → ((i : ℕ) → val.Fits w8 (getD answer i 0))
+          → Fits area 0 (pageIn form listed offers (h .candidates) (h .institutes) answer)
+      page-fits l few bytes = record {
+        room = omega (
+          arith,
+          page-short answer (λ i. omega (arith, bytes i)) form listed candidates-most institutes-most seats-few offers (omega arith),
+        );
+      }
+
+      page-read : pageIn form listed offers (h .candidates) (h .institutes) answer ≡ page (roundOf file)
+      page-read =
+          rw (formed, same-listed, known .counted, candidates-many, institutes-many, known .stands)
+          (page-stands (formOf file) (roundOf file) (sound file (known .accepted)) (known .rest))
+
+      pub answered-front : {area now : List ℕ} {size : ℕ} → 94208 ≤ length area → val.Fits w64 offers → ((i : ℕ) → val.Fits w8 (getD answer i 0))
+          → Put area 0 (pageIn form listed offers (h .candidates) (h .institutes) answer) now size → Front area (page (roundOf file)) now size
+      answered-front l few bytes p = rw page-read at (front-put (page-fits l few bytes) p)

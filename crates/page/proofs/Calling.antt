@@ -1,6 +1,7 @@
 -- The answer of a call with areas for the largest round, as what is printed: it is allotted where the file passes, and else refused as the file is.
 use Prim.Native.Nat.{ℕ, _≤_, _<_}
 use mathlib.Core.Path.{_≡_, refl, sym, ap, _∙_}
+use mathlib.Core.Bool.{Bool}
 use mathlib.Core.List.{List}
 use borrow.Author.Tests.{le-leb}
 use native.Mathlib.Omega.{arith}
@@ -18,6 +19,7 @@ use Rattle.offers.specs.Process.{candidateCount, instituteCount, offersMade}
 use Rattle.allotment.specs.declared.Answer.{Answer}
 use Rattle.allotment.specs.declared.Answer.the-variants.{Allotted, Refused}
 use Rattle.allotment.specs.Areas.{sizeFor, answerSize}
+use Rattle.allotment.proofs.Files.AreaSeats.{closings-few}
 use Rattle.allotment.specs.Outcome.{Outcome, allotted, refused, outcomeOf, outcome}
 use Rattle.allotment.specs.Promise.{Promise}
 use Rattle.allotment.proofs.Files.Accepting.{outcome-refused, outcome-allotted, answer-written}
@@ -28,17 +30,17 @@ use Rattle.page.specs.Reads.{Answered}
 use Rattle.page.proofs.Short.{refusal-short}
 use Rattle.page.proofs.Whole.{printed-long}
 
-pub refusal-fits : {area : List ℕ} (number offset : ℕ) → 57344 ≤ length area → val.Fits w64 number → val.Fits w64 offset → Fits area 0 (refusedLine number offset)
+pub refusal-fits : {area : List ℕ} (number offset : ℕ) → 94208 ≤ length area → val.Fits w64 number → val.Fits w64 offset → Fits area 0 (refusedLine number offset)
 refusal-fits number offset l few small = record { room = omega (arith, refusal-short number offset (omega arith) (omega arith)) }
 
--- the largest round's answer has 14,560 bytes
-size-most : (form : Form) (n m : ℕ) → n ≤ 512 → m ≤ 1000 → sizeFor form n m ≤ 14560
-size-most Narrow n m l k = omega arith
-size-most Wide n m l k = omega arith
+-- the largest round's answer has 26,560 bytes
+size-most : (form : Form) (listed : Bool) (n m : ℕ) → n ≤ 512 → m ≤ 1000 → sizeFor form listed n m ≤ 26560
+size-most Narrow listed n m l k = omega (arith, closings-few listed {m = m} refl k)
+size-most Wide listed n m l k = omega (arith, closings-few listed {m = m} refl k)
 
 -- a call with areas for the largest round
 module _ {file answer work answerNow workNow : List ℕ} {told : Answer}
-    (promise : Promise file answer work told answerNow workNow) (long : length answer ≡ 14560) (wide : length work ≡ 4096) where
+    (promise : Promise file answer work told answerNow workNow) (long : length answer ≡ 26560) (wide : length work ≡ 4096) where
   abbrev here : Outcome
   here = outcome file (length answer) (length work)
 
@@ -48,7 +50,7 @@ module _ {file answer work answerNow workNow : List ℕ} {told : Answer}
       outcome-allotted file (length answer) (length work) e
       (omega (
         arith,
-        size-most (formOf file) (candidateCount (roundOf file)) (instituteCount (roundOf file)) (sound file e .candidates-most) (sound file e .institutes-most),
+        size-most (formOf file) (roundOf file .stepsListed) (candidateCount (roundOf file)) (instituteCount (roundOf file)) (sound file e .candidates-most) (sound file e .institutes-most),
       )) (omega (arith, sound file e .candidates-most))
 
   module _ {offers : ℕ} (allots : told ≡ Allotted offers) where
@@ -86,7 +88,7 @@ module _ {file answer work answerNow workNow : List ℕ} {told : Answer}
         let z : _≡_ {A = Outcome} (refused n o) (refused number offset) = sym (outcome-refused file (length answer) (length work) n o e) ∙ as-refused in
         cc
 
-    pub printed-line : {area now : List ℕ} {size : ℕ} → 57344 ≤ length area → val.Fits w64 number → val.Fits w64 offset
+    pub printed-line : {area now : List ℕ} {size : ℕ} → 94208 ≤ length area → val.Fits w64 number → val.Fits w64 offset
         → Put area 0 (refusedLine number offset) now size → Front area (printedFor file) now size
     unfolding printedFor
     printed-line l few small p = rw (printed-refused (verdict file) refl) (front-put (refusal-fits number offset l few small) p)
@@ -97,6 +99,6 @@ unfolding printed
 printed-read input l p = rw (le-leb (length input) 65536 l) p
 
 -- one that is not
-pub printed-unread : (input : List ℕ) {area now : List ℕ} {size : ℕ} → 57344 ≤ length area → 65536 < length input → Put area 0 (refusedLine 16 0) now size
+pub printed-unread : (input : List ℕ) {area now : List ℕ} {size : ℕ} → 94208 ≤ length area → 65536 < length input → Put area 0 (refusedLine 16 0) now size
     → Front area (printed input) now size
 printed-unread input l m p = rw (printed-long input m) (front-put (refusal-fits 16 0 l (omega arith) (omega arith)) p)

@@ -1,5 +1,6 @@
--- A page has at most 57,344 bytes.
+-- A page has at most 94,208 bytes.
 use Prim.Native.Nat.{ℕ, suc, _+_, _*_, _<_, _≤_}
+use mathlib.Core.Bool.{Bool}
 use mathlib.Core.List.{List, _++_}
 use native.Mathlib.Omega.{arith}
 use lib.ListN.{length, getD, length-append}
@@ -7,12 +8,13 @@ use Rattle.round.specs.declared.form.Form.{Form}
 use Rattle.round.specs.Form.{seatWidth}
 use Rattle.round.proofs.Joined.{joined-short}
 use Rattle.offers.specs.Process.{Seat}
-use Rattle.allotment.specs.Areas.{typeStanding}
+use Rattle.allotment.specs.Areas.{closingCount, closingWidth, typeStanding}
+use Rattle.allotment.proofs.Files.Putting.{places-few}
 use Rattle.offers.specs.Areas.{seatIn}
 use Rattle.text.specs.Ascii.{ascii}
 use Rattle.text.specs.Decimal.{decimal, nextNumber, named}
 use Rattle.text.proofs.Decimals.{decimal-short}
-use Rattle.page.specs.Page.{offersLine, seatLine, sixPlaces, closingLine, refusedLine}
+use Rattle.page.specs.Page.{offersLine, seatLine, placesLine, closingLine, refusedLine}
 use Rattle.page.specs.Reads.{placeIn, seatLines, closingLines, pageIn}
 
 -- a number of 64 bits has at most 20 digits
@@ -32,7 +34,7 @@ refusal-short number offset l m =
       digits-20 offset m,
     )
 
-seat-short : (candidate : ℕ) (s : Seat) (type : ℕ) → candidate < 1000 → s .institute < 10000 → s .step < 10 → type < 256 → length (seatLine candidate s type) ≤ 15
+seat-short : (candidate : ℕ) (s : Seat) (type : ℕ) → candidate < 1000 → s .institute < 10000 → s .step < 100 → type < 256 → length (seatLine candidate s type) ≤ 16
 seat-short candidate s type l m o t =
     omega (
       arith,
@@ -42,51 +44,53 @@ seat-short candidate s type l m o t =
       length-append (decimal candidate) (nextNumber (s .institute)),
       decimal-short 2 candidate (omega arith),
       decimal-short 3 (s .institute) (omega arith),
-      decimal-short 0 (s .step) (omega arith),
+      decimal-short 1 (s .step) (omega arith),
       decimal-short 2 type (omega arith),
     )
 
 -- an answer area holds bytes
 module _ (answer : List ℕ) (bytes : (i : ℕ) → getD answer i 0 < 256) where
-  places-short : (from : ℕ) → length (sixPlaces (placeIn answer from)) ≤ 36
-  unfolding sixPlaces
-  places-short from = joined-short 6 6 (λ k. nextNumber (placeIn answer from k)) (λ k l. place-short k)
+  places-short : (count from : ℕ) → length (placesLine count (placeIn answer from)) ≤ 6 * count
+  unfolding placesLine
+  places-short count from = joined-short 6 count (λ k. nextNumber (placeIn answer from k)) (λ k l. place-short k)
     where
       place-short : (k : ℕ) → length (nextNumber (placeIn answer from k)) ≤ 6
       place-short k = omega (arith, decimal-short 4 (placeIn answer from k) (omega (arith, bytes (from + 2 * k), bytes (suc (from + 2 * k)))))
 
-  closing-short : (institute from : ℕ) → institute < 10000 → length (closingLine institute (placeIn answer from)) ≤ 49
-  closing-short institute from l =
+  closing-short : (institute count from : ℕ) → institute < 10000 → count ≤ 12 → length (closingLine institute count (placeIn answer from)) ≤ 85
+  closing-short institute count from l m =
       omega (
         arith,
-        length-append (named (ascii "closing") institute ++ sixPlaces (placeIn answer from)) (ascii "\n"),
-        length-append (named (ascii "closing") institute) (sixPlaces (placeIn answer from)),
+        length-append (named (ascii "closing") institute ++ placesLine count (placeIn answer from)) (ascii "\n"),
+        length-append (named (ascii "closing") institute) (placesLine count (placeIn answer from)),
         decimal-short 3 institute (omega arith),
-        places-short from,
+        places-short count from,
       )
 
   -- the institute and the step of a seat have few digits
-  module _ (form : Form) {candidates institutes : ℕ} (n : candidates ≤ 512) (m : institutes ≤ 1000)
-      (few : (i : ℕ) → i < candidates → (seatIn form answer i .institute < 10000) × (seatIn form answer i .step < 10)) where
-    seats-short : length (seatLines form answer candidates institutes) ≤ 15 * candidates
+  module _ (form : Form) (listed : Bool) {candidates institutes : ℕ} (n : candidates ≤ 512) (m : institutes ≤ 1000)
+      (few : (i : ℕ) → i < candidates → (seatIn form answer i .institute < 10000) × (seatIn form answer i .step < 100)) where
+    seats-short : length (seatLines form listed answer candidates institutes) ≤ 16 * candidates
     unfolding seatLines
     seats-short =
-        joined-short 15 candidates (λ i. seatLine (i + 1) (seatIn form answer i) (typeStanding form candidates institutes answer i))
+        joined-short 16 candidates (λ i. seatLine (i + 1) (seatIn form answer i) (typeStanding form listed candidates institutes answer i))
         (λ i l.
-        seat-short (i + 1) (seatIn form answer i) (typeStanding form candidates institutes answer i) (omega arith) (few i l .0) (few i l .1)
-        (bytes (seatWidth form * candidates + 12 * institutes + i)))
+        seat-short (i + 1) (seatIn form answer i) (typeStanding form listed candidates institutes answer i) (omega arith) (few i l .0) (few i l .1)
+        (bytes (seatWidth form * candidates + closingWidth listed * institutes + i)))
 
-    closings-short : length (closingLines form answer candidates institutes) ≤ 49 * institutes
+    closings-short : length (closingLines form listed answer candidates institutes) ≤ 85 * institutes
     unfolding closingLines
-    closings-short = joined-short 49 institutes (λ j. closingLine (j + 1) (placeIn answer (seatWidth form * candidates + 12 * j))) (λ j l. closing-short (j + 1) _ (omega arith))
+    closings-short =
+        joined-short 85 institutes (λ j. closingLine (j + 1) (closingCount listed) (placeIn answer (seatWidth form * candidates + closingWidth listed * j)))
+        (λ j l. closing-short (j + 1) (closingCount listed) _ (omega arith) (places-few listed))
 
-    pub page-short : (offers : ℕ) → offers < 18446744073709551616 → length (pageIn form offers candidates institutes answer) ≤ 57344
+    pub page-short : (offers : ℕ) → offers < 18446744073709551616 → length (pageIn form listed offers candidates institutes answer) ≤ 94208
     unfolding pageIn
     page-short offers l =
         omega (
           arith,
-          length-append (offersLine offers ++ seatLines form answer candidates institutes) (closingLines form answer candidates institutes),
-          length-append (offersLine offers) (seatLines form answer candidates institutes),
+          length-append (offersLine offers ++ seatLines form listed answer candidates institutes) (closingLines form listed answer candidates institutes),
+          length-append (offersLine offers) (seatLines form listed answer candidates institutes),
           offers-short offers l,
           seats-short,
           closings-short,

@@ -1,6 +1,6 @@
 -- The starred rounds of document 01, "Worked rounds", with the closing places and types of document 02, Points 1 and 3, file A in the wide form of its
--- Point 6, and two rounds with more than one placing: one table of file bytes, what a call on them gives and what is printed, and one theorem, computed
--- on the definitions from the bytes to the answer, both areas and the text.
+-- Point 6 and, in both forms, with the step list of its Point 7, and two rounds with more than one placing: one table of file bytes, what a call on them
+-- gives and what is printed, and one theorem, computed on the definitions from the bytes to the answer, both areas and the text.
 use Prim.Native.Nat.{ℕ}
 use Prim.Native.String.{String}
 use mathlib.Core.Path.{_≡_, refl}
@@ -21,11 +21,11 @@ use Rattle.offers.specs.Rows.{rankIn}
 use Rattle.offers.specs.Offers.{placeOn, stepsOn, accountOn}
 use Rattle.offers.specs.Process.{madeTo, chosen, seatBy, seatsAfter, mayOffer, turn, turns, tried, offersMade, seats, accountAtEnd, typeBy, typesUsed}
 use Rattle.offers.specs.Areas.{wordBytes}
-use Rattle.allotment.specs.Areas.{closingPlaces, closingBytes, answerBytes}
+use Rattle.allotment.specs.Areas.{closingCount, closingWidth, placesTo, closingBytes, answerBytes}
 use Rattle.allotment.specs.Outcome.{Outcome, allotted, refused, outcome, answerAfter, workAfter}
 use Rattle.text.specs.Ascii.{ascii}
 use Rattle.text.specs.Decimal.{decimalBy}
-use Rattle.page.specs.Page.{sixPlaces, page, printedFor, printed}
+use Rattle.page.specs.Page.{placesLine, page, printedFor, printed}
 
 abbrev pub Bytes : Type 0
 Bytes = List ℕ
@@ -78,6 +78,16 @@ wideObcBoth = 0x08 ∷ 0x00 ∷ 0x06 ∷ 0x00 ∷ 0x03 ∷ 0x00 ∷ 0x01 ∷ 0x0
 
 abbrev wideMarkedOpen : Bytes
 wideMarkedOpen = 0x05 ∷ 0x00 ∷ 0x06 ∷ 0x00 ∷ 0x00 ∷ 0x01 ∷ 0x01 ∷ 0x00 ∷ 0x00 ∷ []
+
+-- file A with its steps written as a list: its heads under policy 2 in both forms, and its institute with a list of six steps, OBC handing to the sixth
+abbrev listHeadOfA : Bytes
+listHeadOfA = 0x08 ∷ 0x00 ∷ 0x01 ∷ 0x00 ∷ 0x03 ∷ 0x00 ∷ 0x01 ∷ 0x00 ∷ 0x01 ∷ 0x00 ∷ 0x02 ∷ 0x00 ∷ []
+
+abbrev wideListHeadOfA : Bytes
+wideListHeadOfA = 0x08 ∷ 0x00 ∷ 0x05 ∷ 0x00 ∷ 0x03 ∷ 0x00 ∷ 0x01 ∷ 0x00 ∷ 0x01 ∷ 0x00 ∷ 0x02 ∷ 0x00 ∷ []
+
+abbrev listOfA : Bytes
+listOfA = 0x24 ∷ 0x00 ∷ 0x07 ∷ 0x00 ∷ 0x00 ∷ 0x00 ∷ 0x01 ∷ 0x00 ∷ 0x01 ∷ 0x00 ∷ 0x01 ∷ 0x00 ∷ 0x00 ∷ 0x00 ∷ 0x00 ∷ 0x00 ∷ 0x02 ∷ 0x00 ∷ 0x00 ∷ 0x00 ∷ 0x00 ∷ 0x00 ∷ 0x03 ∷ 0x06 ∷ 0x01 ∷ 0x00 ∷ 0x00 ∷ 0x00 ∷ 0x04 ∷ 0x00 ∷ 0x00 ∷ 0x00 ∷ 0x00 ∷ 0x00 ∷ 0x00 ∷ 0x00 ∷ 0x00 ∷ 0x00 ∷ 0x00 ∷ 0x00 ∷ []
 
 -- the merit list 1, 2, 3
 abbrev meritOfA : Bytes
@@ -155,9 +165,9 @@ lent size = replicate size 0xff
 
 unfoldable pub called : Bytes → Call
 called file = record {
-  answer = outcome file 30 32;
-  answerArea = answerAfter file (lent 30) (lent 32);
-  workArea = workAfter file (lent 30) (lent 32);
+  answer = outcome file 40 32;
+  answerArea = answerAfter file (lent 40) (lent 32);
+  workArea = workAfter file (lent 40) (lent 32);
   text = printed file;
 }
 
@@ -175,14 +185,14 @@ overwritten bytes size = bytes ++ drop (length bytes) (lent size)
 abbrev allots : ℕ → List Bytes → List ℕ → List ℕ → String → Call
 allots offers list closing types text = record {
   answer = allotted offers;
-  answerArea = overwritten (joined list ++ joined (map wordBytes closing) ++ types) 30;
+  answerArea = overwritten (joined list ++ joined (map wordBytes closing) ++ types) 40;
   workArea = overwritten (joined (map (λ s. replicate 8 0) list)) 32;
   text = ascii text;
 }
 
 -- refused: the number and the byte; both areas stay; the line printed
 abbrev refuses : ℕ → ℕ → String → Call
-refuses number offset text = record { answer = refused number offset; answerArea = lent 30; workArea = lent 32; text = ascii text }
+refuses number offset text = record { answer = refused number offset; answerArea = lent 40; workArea = lent 32; text = ascii text }
 
 pub record Case : Type 0 where
   pub file : Bytes
@@ -198,6 +208,12 @@ table =
     ∷
     -- A in the wide form
     shows (wideHeadOfA ∷ instituteOfA ∷ wideGeneralOpen ∷ wideObcBoth ∷ wideMarkedOpen ∷ meritOfA ∷ []) (allots 4 (wideSeat 0 0 ∷ wideSeat 1 4 ∷ wideSeat 1 1 ∷ []) (0 ∷ 0 ∷ 0 ∷ 2 ∷ 0 ∷ 0 ∷ []) (0 ∷ 0 ∷ 1 ∷ []) "offers 4\n1 0 0 0\n2 1 4 0\n3 1 1 1\nclosing 1 0 0 0 2 0 0\n")
+    ∷
+    -- A with a list of its steps
+    shows (listHeadOfA ∷ listOfA ∷ generalOpen ∷ obcBoth ∷ markedOpen ∷ meritOfA ∷ []) (allots 4 (seat 0 0 ∷ seat 1 4 ∷ seat 1 1 ∷ []) (0 ∷ 0 ∷ 0 ∷ 2 ∷ 0 ∷ 0 ∷ 0 ∷ 0 ∷ 0 ∷ 0 ∷ 0 ∷ 0 ∷ []) (0 ∷ 0 ∷ 1 ∷ []) "offers 4\n1 0 0 0\n2 1 4 0\n3 1 1 1\nclosing 1 0 0 0 2 0 0 0 0 0 0 0 0\n")
+    ∷
+    -- the same in the wide form
+    shows (wideListHeadOfA ∷ listOfA ∷ wideGeneralOpen ∷ wideObcBoth ∷ wideMarkedOpen ∷ meritOfA ∷ []) (allots 4 (wideSeat 0 0 ∷ wideSeat 1 4 ∷ wideSeat 1 1 ∷ []) (0 ∷ 0 ∷ 0 ∷ 2 ∷ 0 ∷ 0 ∷ 0 ∷ 0 ∷ 0 ∷ 0 ∷ 0 ∷ 0 ∷ []) (0 ∷ 0 ∷ 1 ∷ []) "offers 4\n1 0 0 0\n2 1 4 0\n3 1 1 1\nclosing 1 0 0 0 2 0 0 0 0 0 0 0 0\n")
     ∷
     -- A with candidate 2 listing only open
     shows (headOfA ∷ instituteOfA ∷ generalOpen ∷ obcOpen ∷ markedOpen ∷ meritOfA ∷ []) (allots 3 (seat 1 6 ∷ seat 0 0 ∷ seat 1 1 ∷ []) (0 ∷ 0 ∷ 0 ∷ 0 ∷ 0 ∷ 1 ∷ []) (0 ∷ 0 ∷ 1 ∷ []) "offers 3\n1 1 6 0\n2 0 0 0\n3 1 1 1\nclosing 1 0 0 0 0 0 1\n")
@@ -247,5 +263,5 @@ table =
     []
 
 pub starred : map (λ c. called (c .file)) table ≡ map (λ c. c .expected) table
-unfolding called startOf formOf questionsAt verdict verdictFrom stepIn dereserved stepsIn entryIn candidateIn instituteFrom roundOf holds oneLess greatest useOf raises takenBefore takenForUse remaining takenByMerit taken gathered suits firstPlacing typesOf considers positionsAt takenAt vacantAt advance advanceAll nothingDone choose accountAt accountFrom account closingPlace rankIn placeOn stepsOn accountOn madeTo chosen seatBy seatsAfter mayOffer turn turns tried offersMade seats accountAtEnd typeBy typesUsed closingPlaces closingBytes answerBytes outcome answerAfter workAfter decimalBy sixPlaces page printedFor printed
+unfolding called startOf formOf questionsAt verdict verdictFrom stepIn dereserved stepsIn entryIn candidateIn instituteFrom roundOf holds oneLess greatest useOf raises takenBefore takenForUse remaining takenByMerit taken gathered suits firstPlacing typesOf considers positionsAt takenAt vacantAt advance advanceAll nothingDone choose accountAt accountFrom account closingPlace rankIn placeOn stepsOn accountOn madeTo chosen seatBy seatsAfter mayOffer turn turns tried offersMade seats accountAtEnd typeBy typesUsed closingCount closingWidth placesTo closingBytes answerBytes outcome answerAfter workAfter decimalBy placesLine page printedFor printed
 starred = refl

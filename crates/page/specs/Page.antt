@@ -1,4 +1,4 @@
--- What the program prints for an input, byte by byte (document 01, "Worked rounds"; document 02, Points 1, 3 and 6).
+-- What the program prints for an input, byte by byte (document 01, "Worked rounds"; document 02, Points 1, 3, 6 and 7).
 use Prim.Native.Nat.{ℕ, _+_}
 use mathlib.Core.Bool.{cond}
 use mathlib.Core.List.{List, _++_}
@@ -9,7 +9,7 @@ use Rattle.round.specs.Round.{Round}
 use Rattle.round.specs.Reading.{roundOf}
 use Rattle.round.specs.Refusal.{Verdict, passes, refused, verdict}
 use Rattle.offers.specs.Process.{Seat, noSeat, candidateCount, instituteCount, offersMade, seats, typesUsed}
-use Rattle.allotment.specs.Areas.{closingPlaces}
+use Rattle.allotment.specs.Areas.{closingCount, closingPlaces}
 use Rattle.text.specs.Ascii.{ascii}
 use Rattle.text.specs.Decimal.{decimal, nextNumber, named}
 
@@ -21,27 +21,27 @@ offersLine offers = named (ascii "offers") offers ++ ascii "\n"
 abbrev pub seatLine : ℕ → Seat → ℕ → List ℕ
 seatLine candidate s type = decimal candidate ++ nextNumber (s .institute) ++ nextNumber (s .step) ++ nextNumber type ++ ascii "\n"
 
--- six closing places, each behind a space
-unfoldable pub sixPlaces : (ℕ → ℕ) → List ℕ
-sixPlaces place = joined (tabulate 6 (λ k. nextNumber (place k)))
+-- so many closing places, each behind a space
+unfoldable pub placesLine : ℕ → (ℕ → ℕ) → List ℕ
+placesLine count place = joined (tabulate count (λ k. nextNumber (place k)))
 
--- an institute's number and its six closing places
-abbrev pub closingLine : ℕ → (ℕ → ℕ) → List ℕ
-closingLine institute place = named (ascii "closing") institute ++ sixPlaces place ++ ascii "\n"
+-- an institute's number and its closing places
+abbrev pub closingLine : ℕ → ℕ → (ℕ → ℕ) → List ℕ
+closingLine institute count place = named (ascii "closing") institute ++ placesLine count place ++ ascii "\n"
 
 -- the one line of a refusal
 abbrev pub refusedLine : ℕ → ℕ → List ℕ
 refusedLine number offset = named (ascii "refused") number ++ named (ascii " at") offset ++ ascii "\n"
 
 -- the page of a round's allotment: "First the offers; then candidate, institute, step; then for each institute its number and six closing
--- places"; "each candidate line gains the type as its last number"
+-- places"; "each candidate line gains the type as its last number"; "Each institute then has twelve closing places"
 unfoldable pub page : Round → List ℕ
 page r =
     let list : List Seat = seats r in
     let types : List ℕ = typesUsed r in
     offersLine (offersMade r)
     ++ joined (tabulate (candidateCount r) (λ i. seatLine (i + 1) (getD list i noSeat) (getD types i 0)))
-    ++ joined (tabulate (instituteCount r) (λ j. let places : List ℕ = closingPlaces r j in closingLine (j + 1) (λ k. getD places k 0)))
+    ++ joined (tabulate (instituteCount r) (λ j. let places : List ℕ = closingPlaces r j in closingLine (j + 1) (closingCount (r .stepsListed)) (λ k. getD places k 0)))
 
 abbrev pub printedBy : Verdict → Round → List ℕ
 printedBy passes r = page r

@@ -4,10 +4,10 @@ use text::put_line_end;
 use text::put_named;
 use text::put_next;
 use text::put_number;
-ghost use Prim.Native.Nat.{_+_, _≤_};
+ghost use Prim.Native.Nat.{_+_, _*_, _≤_};
 ghost use lib.ListN.{length};
 ghost use Rattle.text.specs.Put.{Fits, Put};
-ghost use Rattle.page.specs.Page.{offersLine, seatLine, sixPlaces, closingLine, refusedLine};
+ghost use Rattle.page.specs.Page.{offersLine, seatLine, placesLine, closingLine, refusedLine};
 ghost use Rattle.page.specs.Reads.{placeIn};
 
 // The number of offers.
@@ -38,33 +38,34 @@ pub fn put_seat(
     put_line_end(page, typed)
 }
 
-// Six closing places of an answer area, from a byte on, each behind a space.
-fn put_places(page: &mut [u8], at: usize, answer: &[u8], from: usize) -> usize
-    requires { ⌜ from + 12 ≤ length (now answer) ⌝ }
-    requires { ⌜ Fits (now page) at (sixPlaces (placeIn (now answer) from)) ⌝ }
-    ensures { λ r. ⌜ Put (now (page .entry)) at (sixPlaces (placeIn (now (answer .entry)) from)) (now (page .exit)) r ⌝ }
+// So many closing places of an answer area, from a byte on, each behind a space.
+fn put_places(page: &mut [u8], at: usize, count: usize, answer: &[u8], from: usize) -> usize
+    requires { ⌜ (count ≤ 12) × (from + 2 * count ≤ length (now answer)) ⌝ }
+    requires { ⌜ Fits (now page) at (placesLine count (placeIn (now answer) from)) ⌝ }
+    ensures { λ r. ⌜ Put (now (page .entry)) at (placesLine count (placeIn (now (answer .entry)) from)) (now (page .exit)) r ⌝ }
 {
     let mut behind = at;
-    for k in 0..6 {
+    for k in 0..count {
         behind = put_next(page, behind, word(answer, from + 2 * k));
     }
     behind
 }
 
-// An institute's number and its closing places, which stand in an answer area from a byte on.
+// An institute's number and its closing places, so many, which stand in an answer area from a byte on.
 pub fn put_closing(
     page: &mut [u8],
     at: usize,
     institute: usize,
+    count: usize,
     answer: &[u8],
     from: usize,
 ) -> usize
-    requires { ⌜ from + 12 ≤ length (now answer) ⌝ }
-    requires { ⌜ Fits (now page) at (closingLine institute (placeIn (now answer) from)) ⌝ }
-    ensures { λ r. ⌜ Put (now (page .entry)) at (closingLine institute (placeIn (now (answer .entry)) from)) (now (page .exit)) r ⌝ }
+    requires { ⌜ (count ≤ 12) × (from + 2 * count ≤ length (now answer)) ⌝ }
+    requires { ⌜ Fits (now page) at (closingLine institute count (placeIn (now answer) from)) ⌝ }
+    ensures { λ r. ⌜ Put (now (page .entry)) at (closingLine institute count (placeIn (now (answer .entry)) from)) (now (page .exit)) r ⌝ }
 {
     let told = put_named(page, at, b"closing", institute);
-    let closed = put_places(page, told, answer, from);
+    let closed = put_places(page, told, count, answer, from);
     put_line_end(page, closed)
 }
 

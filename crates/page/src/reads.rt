@@ -2,6 +2,8 @@
 use crate::lines::put_closing;
 use crate::lines::put_offers;
 use crate::lines::put_seat;
+use allotment::sizes::closing_count;
+use allotment::sizes::closing_width;
 use offers::list::institute_at;
 use offers::list::step_at;
 use round::form::Form;
@@ -40,15 +42,16 @@ fn put_seats(
     page: &mut [u8],
     at: usize,
     form: Form,
+    listed: bool,
     candidates: usize,
     institutes: usize,
     answer: &[u8],
 ) -> usize
-    requires { ⌜ (candidates ≤ 512) × (institutes ≤ 1000) × (sizeFor form candidates institutes ≤ length (now answer)) ⌝ }
-    requires { ⌜ Fits (now page) at (seatLines form (now answer) candidates institutes) ⌝ }
-    ensures { λ r. ⌜ Put (now (page .entry)) at (seatLines form (now (answer .entry)) candidates institutes) (now (page .exit)) r ⌝ }
+    requires { ⌜ (candidates ≤ 512) × (institutes ≤ 1000) × (sizeFor form listed candidates institutes ≤ length (now answer)) ⌝ }
+    requires { ⌜ Fits (now page) at (seatLines form listed (now answer) candidates institutes) ⌝ }
+    ensures { λ r. ⌜ Put (now (page .entry)) at (seatLines form listed (now (answer .entry)) candidates institutes) (now (page .exit)) r ⌝ }
 {
-    let types = seats_size(form, candidates) + 12 * institutes;
+    let types = seats_size(form, candidates) + closing_width(listed) * institutes;
     let mut behind = at;
     for i in 0..candidates {
         behind = put_seat_in(page, behind, form, answer, types, i);
@@ -61,18 +64,21 @@ fn put_closings(
     page: &mut [u8],
     at: usize,
     form: Form,
+    listed: bool,
     candidates: usize,
     institutes: usize,
     answer: &[u8],
 ) -> usize
-    requires { ⌜ (candidates ≤ 512) × (institutes ≤ 1000) × (sizeFor form candidates institutes ≤ length (now answer)) ⌝ }
-    requires { ⌜ Fits (now page) at (closingLines form (now answer) candidates institutes) ⌝ }
-    ensures { λ r. ⌜ Put (now (page .entry)) at (closingLines form (now (answer .entry)) candidates institutes) (now (page .exit)) r ⌝ }
+    requires { ⌜ (candidates ≤ 512) × (institutes ≤ 1000) × (sizeFor form listed candidates institutes ≤ length (now answer)) ⌝ }
+    requires { ⌜ Fits (now page) at (closingLines form listed (now answer) candidates institutes) ⌝ }
+    ensures { λ r. ⌜ Put (now (page .entry)) at (closingLines form listed (now (answer .entry)) candidates institutes) (now (page .exit)) r ⌝ }
 {
     let closings = seats_size(form, candidates);
+    let count = closing_count(listed);
+    let width = closing_width(listed);
     let mut behind = at;
     for j in 0..institutes {
-        behind = put_closing(page, behind, j + 1, answer, closings + 12 * j);
+        behind = put_closing(page, behind, j + 1, count, answer, closings + width * j);
     }
     behind
 }
@@ -81,16 +87,17 @@ fn put_closings(
 pub fn put_allotment(
     page: &mut [u8],
     form: Form,
+    listed: bool,
     offers: usize,
     candidates: usize,
     institutes: usize,
     answer: &[u8],
 ) -> usize
-    requires { ⌜ (candidates ≤ 512) × (institutes ≤ 1000) × (sizeFor form candidates institutes ≤ length (now answer)) ⌝ }
-    requires { ⌜ Fits (now page) 0 (pageIn form offers candidates institutes (now answer)) ⌝ }
-    ensures { λ r. ⌜ Put (now (page .entry)) 0 (pageIn form offers candidates institutes (now (answer .entry))) (now (page .exit)) r ⌝ }
+    requires { ⌜ (candidates ≤ 512) × (institutes ≤ 1000) × (sizeFor form listed candidates institutes ≤ length (now answer)) ⌝ }
+    requires { ⌜ Fits (now page) 0 (pageIn form listed offers candidates institutes (now answer)) ⌝ }
+    ensures { λ r. ⌜ Put (now (page .entry)) 0 (pageIn form listed offers candidates institutes (now (answer .entry))) (now (page .exit)) r ⌝ }
 {
     let counted = put_offers(page, 0, offers);
-    let seated = put_seats(page, counted, form, candidates, institutes, answer);
-    put_closings(page, seated, form, candidates, institutes, answer)
+    let seated = put_seats(page, counted, form, listed, candidates, institutes, answer);
+    put_closings(page, seated, form, listed, candidates, institutes, answer)
 }

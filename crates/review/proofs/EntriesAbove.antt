@@ -10,18 +10,18 @@ use lib.ListN.{length}
 use borrow.Author.Tests.{lt-ltb, le-ltb}
 use Rattle.round.specs.declared.entry.Entry.{Entry}
 use Rattle.round.specs.declared.head.Head.{Head}
-use Rattle.round.specs.Category.{categoryOf}
 use Rattle.round.specs.Lists.{first}
-use Rattle.round.specs.Places.{candidateAt, entryAt}
+use Rattle.round.specs.Places.{candidateAt, entryAt, stepNumbers}
 use Rattle.round.specs.Reading.{roundOf}
 use Rattle.round.specs.Records.{headOf}
 use Rattle.round.specs.Round.{Round}
 use Rattle.round.specs.Sound.{SoundCandidate}
-use Rattle.round.proofs.Sound.{length-institutes, step-category}
-use Rattle.offers.specs.Offers.{stepFor, takenFrom}
+use Rattle.round.specs.Access.{InstituteKnown}
+use Rattle.offers.specs.Offers.{OfferSet, stepFor, takenFrom}
 use Rattle.offers.specs.Process.{Seat, candidateCount, instituteCount}
-use Rattle.offers.specs.Rows.{rowAt, sameCategory}
-use Rattle.offers.proofs.Sweeps.Known.{candidates-many, institutes-many, round-sound}
+use Rattle.offers.specs.Rows.{rowAt, sameCategory, categoryAt}
+use Rattle.offers.proofs.Rounds.Agreed.{step-number}
+use Rattle.offers.proofs.Sweeps.Known.{candidates-many, institutes-many, round-sound, knows-institute}
 use Rattle.review.specs.Finding.{passes, betterEntry, wouldTake, above, best, better, entryFinding}
 use Rattle.review.specs.Outcome as Outcome
 use Rattle.review.specs.Outcome.{listFor}
@@ -55,28 +55,28 @@ module _ {file : List ℕ} {h : Head} {candidates merits list : List ℕ} (at : 
   pub institute-inside : entry .institute - 1 < h .institutes
   institute-inside = omega (arith, institute-least, institute-most, institutes-many (at .hand))
 
-  -- whether it would be chosen, by the step that is given where it is added
-  pub would-be-taken : {asked wanted : List ℕ} → AllRead file list asked wanted → {step : ℕ} {yes : Bool}
+  pub institute-known : InstituteKnown file h merits (entry .institute - 1)
+  institute-known = knows-institute (at .hand) institute-inside
+
+  -- the step that is given where it is added has a number
+  pub step-numbered : (Y : OfferSet) {step number : ℕ} → step ≡ stepFor (roundOf file) (entry .institute - 1) Y i → number ≡ step
+      → number ≤ stepNumbers (roundOf file) (entry .institute - 1)
+  step-numbered Y s n =
+      let j : ℕ = entry .institute - 1 in
+      let below : j < instituteCount (roundOf file) = omega (arith, institute-inside, institutes-many (at .hand)) in
+      omega (arith, s, n, step-number (roundOf file) j Y i, round-sound (at .hand) .numbered j below)
+
+  -- by that step, whether it would be chosen
+  pub would-be-taken : {asked wanted : List ℕ} → AllRead file list asked wanted → {step number : ℕ} {result : Bool}
       → step ≡ stepFor (roundOf file) (entry .institute - 1) (offersWith (entry .institute - 1) i (entry .category) asked wanted) i
-      → yes ≡ (not (eqb step 0) && sameCategory (categoryOf (step - 1)) (entry .category))
-      → yes ≡ wouldTake (roundOf file) (listFor file list) i (entryAt (candidateAt (roundOf file) i) k)
+      → number ≡ step
+      → result ≡ (not (eqb number 0) && sameCategory (categoryAt (roundOf file) (entry .institute - 1) number) (entry .category))
+      → result ≡ wouldTake (roundOf file) (listFor file list) i (entryAt (candidateAt (roundOf file) i) k)
   unfolding wouldTake takenFrom
-  would-be-taken {asked} {wanted} read {step} {yes} s t = here ∙ ap (wouldTake (roundOf file) (listFor file list) i) reads
+  would-be-taken {asked} {wanted} read {result = result} s n t = here ∙ ap (wouldTake (roundOf file) (listFor file list) i) reads
     where
-      j : ℕ
-      j = entry .institute - 1
-
-      most : j < instituteCount (roundOf file)
-      most = omega (arith, institute-least, institute-most)
-
-      here : yes ≡ wouldTake (roundOf file) (listFor file list) i entry
-      here =
-          t
-          ∙ rw (
-            s,
-            offers-added file list read i (omega (arith, candidates-many (at .hand))) j most (entry .category),
-            step-category file j _ (omega (arith, most, length-institutes file)),
-          )
+      here : result ≡ wouldTake (roundOf file) (listFor file list) i entry
+      here = t ∙ rw (n, s, offers-added file list read i (omega (arith, candidates-many (at .hand))) (entry .institute - 1) (entry .category))
 
 pub above-fits : (file list : List ℕ) (i : ℕ) {size : ℕ} → size ≡ above (roundOf file) (listFor file list) i
     → size ≤ length (rowAt (roundOf file) i)

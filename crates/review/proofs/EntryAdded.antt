@@ -19,7 +19,7 @@ use Rattle.choice.specs.Use.{holds}
 use Rattle.choice.proofs.Counting.{sameOr}
 use Rattle.offers.specs.Rows.{sameCategory}
 use Rattle.offers.specs.Offers.{stepFor}
-use Rattle.offers.specs.Process.{candidateCount, instituteCount}
+use Rattle.offers.specs.Process.{candidateCount}
 use Rattle.offers.specs.Sweeps.{offerTo, offersBy}
 use Rattle.offers.proofs.Sweeps.Lasts.{holds-only}
 use Rattle.review.specs.Finding.{withEntry}
@@ -78,10 +78,10 @@ module _ (j i : ℕ) (c : Category) (asked wanted : List ℕ) {asked' wanted' : 
 module _ (file list : List ℕ) {asked wanted : List ℕ} (read : AllRead file list asked wanted)
     (i : ℕ) (inside : i < candidateCount (roundOf file)) where
   -- candidate k's offer of a category d, where i's of a category c is added
-  offer-added : (j : ℕ) → j < instituteCount (roundOf file) → (c : Category) (k : ℕ) (d : Category)
+  offer-added : (j : ℕ) (c : Category) (k : ℕ) (d : Category)
       → offersWith j i c asked wanted k d ≡ withEntry (roundOf file) (listFor file list) j i c k d
   unfolding offersWith askedWith wantedWith withEntry offersBy
-  offer-added j l c k d = rw (← offers-listed file list read j l) (sameOr k i own other)
+  offer-added j c k d = rw (← offers-listed file list read j) (sameOr k i own other)
     where
       v : ℕ
       v = bitOr (offerTo (suc j) asked wanted i) (2 ^ codeOf c)
@@ -95,6 +95,5 @@ module _ (file list : List ℕ) {asked wanted : List ℕ} (read : AllRead file l
       other : k ≢ i → offersWith j i c asked wanted k d ≡ (offersBy (offerTo (suc j) asked wanted) k d || (eqb k i && sameCategory c d))
       other n = rw (offer-kept (suc j) i v asked wanted k n, ne-eqb k i n, or-false)
 
-  pub offers-added : (j : ℕ) → j < instituteCount (roundOf file) → (c : Category)
-      → offersWith j i c asked wanted ≡ withEntry (roundOf file) (listFor file list) j i c
-  offers-added j l c = fun-ext (λ k. fun-ext (λ d. offer-added j l c k d))
+  pub offers-added : (j : ℕ) (c : Category) → offersWith j i c asked wanted ≡ withEntry (roundOf file) (listFor file list) j i c
+  offers-added j c = fun-ext (λ k. fun-ext (λ d. offer-added j c k d))

@@ -11,7 +11,7 @@ use borrow.Author.Tests.{leb-true, ltb-true, lt-ltb, le-ltb, eqb-true, ne-eqb}
 use Rattle.round.specs.declared.entry.Category.{Category}
 use Rattle.round.specs.declared.entry.Entry.{Entry}
 use Rattle.round.specs.Round.{Round, Candidate}
-use Rattle.round.specs.Places.{noCandidate}
+use Rattle.round.specs.Places.{stepNumbers, noCandidate}
 use Rattle.round.specs.Questions.{within}
 use Rattle.round.proofs.Words.{and-fst, and-snd}
 use Rattle.choice.proofs.Counting.{test}
@@ -33,22 +33,23 @@ pub record InRow (r : Round) (list : List Seat) (i : ℕ) : Type 0 where
   pub short : above r list i < length (rowAt r i)
   pub stands : standing r i (seatOn list i) ≡ above r list i
 
--- a seat that names no institute of the round or no step from 1 to 6 stands for no entry
+-- a seat that names no institute of the round or no step of it stands for no entry
 pub rank-none : (r : Round) (i : ℕ) (s : Seat) → isStep r s ≡ false → seatRank r i s ≡ length (rowAt r i)
 unfolding seatRank
 rank-none r i s e = rw e
 
 -- one that names both
 pub step-numbers : (r : Round) (s : Seat) → isStep r s ≡ true
-    → (1 ≤ s .institute) × (s .institute ≤ instituteCount r) × (1 ≤ s .step) × (s .step ≤ 6)
+    → (1 ≤ s .institute) × (s .institute ≤ instituteCount r) × (1 ≤ s .step) × (s .step ≤ stepNumbers r (s .institute - 1))
 unfolding isStep
 step-numbers r s t =
-    let at : within 1 (instituteCount r) (s .institute) ≡ true = and-fst _ (within 1 6 (s .step)) t in
-    let step : within 1 6 (s .step) ≡ true = and-snd (within 1 (instituteCount r) (s .institute)) _ t in (
+    let last : ℕ = stepNumbers r (s .institute - 1) in
+    let at : within 1 (instituteCount r) (s .institute) ≡ true = and-fst _ (within 1 last (s .step)) t in
+    let step : within 1 last (s .step) ≡ true = and-snd (within 1 (instituteCount r) (s .institute)) _ t in (
       leb-true 1 (s .institute) (and-fst _ _ at),
       leb-true (s .institute) (instituteCount r) (and-snd (leb 1 (s .institute)) _ at),
       leb-true 1 (s .step) (and-fst _ _ step),
-      leb-true (s .step) 6 (and-snd (leb 1 (s .step)) _ step),
+      leb-true (s .step) last (and-snd (leb 1 (s .step)) _ step),
     )
 
 module _ (r : Round) (list : List Seat) (i : ℕ) where
@@ -101,8 +102,9 @@ module _ (r : Round) (list : List Seat) (i : ℕ) where
             stands = seat-stands (not-none at) (row-short t);
           }
 
-  -- the numbers of a seat in the row: an institute of the round and a step from 1 to 6
-  pub row-numbers : inRow r list i ≡ true → (1 ≤ seat .institute) × (seat .institute ≤ instituteCount r) × (1 ≤ seat .step) × (seat .step ≤ 6)
+  -- the numbers of a seat in the row: an institute of the round and a step of it
+  pub row-numbers : inRow r list i ≡ true
+      → (1 ≤ seat .institute) × (seat .institute ≤ instituteCount r) × (1 ≤ seat .step) × (seat .step ≤ stepNumbers r (seat .institute - 1))
   row-numbers t = step-numbers r seat (in-row t .step)
 
   -- beyond the last candidate nothing is in a row

@@ -1,23 +1,19 @@
 -- The offers that the tables have are the listed seats that are in their rows.
-use Prim.Native.Nat.{ℕ, suc, _-_, _^_, _<_}
+use Prim.Native.Nat.{ℕ, suc, _-_, _<_}
 use mathlib.Core.Path.{_≡_, fun-ext}
-use mathlib.Core.Bool.{Bool, true, false, cond, _&&_}
+use mathlib.Core.Bool.{true, false}
 use mathlib.Core.List.{List}
 use native.Mathlib.Omega.{arith}
-use lib.Dec.{eqb}
 use lib.ListN.{getD}
-use borrow.Author.Tests.{ne-eqb}
+use borrow.Author.Tests.{eq-eqb, ne-eqb}
 use Rattle.round.specs.declared.entry.Category.{Category}
-use Rattle.round.specs.Category.{codeOf, categoryOf}
 use Rattle.round.specs.Round.{Round}
 use Rattle.round.specs.Records.{formOf}
 use Rattle.round.specs.Reading.{roundOf}
 use Rattle.round.proofs.Words.{tabulate-at}
-use Rattle.round.proofs.Sound.{step-category, length-institutes}
-use Rattle.choice.specs.Use.{holds}
-use Rattle.choice.proofs.Counting.{test, lessOr, clash}
-use Rattle.offers.specs.Rows.{sameCategory}
-use Rattle.offers.specs.Process.{Seat, noSeat, candidateCount, instituteCount}
+use Rattle.choice.proofs.Counting.{test, lessOr, sameOr, clash}
+use Rattle.offers.specs.Rows.{categoryAt}
+use Rattle.offers.specs.Process.{Seat, noSeat, candidateCount}
 use Rattle.offers.specs.Areas.{seatIn, seatsIn}
 use Rattle.offers.specs.Stable.{seatOn, given}
 use Rattle.offers.specs.Sweeps.{offerTo, offersBy}
@@ -47,28 +43,21 @@ module _ (file list : List ℕ) {asked wanted : List ℕ} (read : AllRead file l
   pub row-inside : (i : ℕ) → inRow r seats i ≡ true → i < candidateCount r
   row-inside i t = lessOr i (candidateCount r) (λ l. l) (λ l. clash t (row-beyond r seats i l))
 
-  offer-listed : (j i : ℕ) (c : Category) → j < instituteCount r → offersBy (offerTo (suc j) asked wanted) i c ≡ listedAt r seats j i c
+  offer-listed : (j i : ℕ) (c : Category) → offersBy (offerTo (suc j) asked wanted) i c ≡ listedAt r seats j i c
   unfolding offersBy offerTo listedAt given
-  offer-listed j i c hj = test (inRow r seats i) there absent
+  offer-listed j i c = test (inRow r seats i) there absent
     where
       there : inRow r seats i ≡ true → offersBy (offerTo (suc j) asked wanted) i c ≡ listedAt r seats j i c
       there t =
-          rw (
-            read .asked-at i (row-inside i t) t,
-            read .wanted-at i (row-inside i t) t,
-            t,
-            in-row r seats i t .step,
-            step-category file j (seatOn seats i .step - 1) (omega (arith, length-institutes file)),
-          )
-          (go (eqb (seatOn seats i .institute) (suc j)))
-        where
-          go : (b : Bool) → holds (cond b (2 ^ codeOf (categoryOf (seatOn seats i .step - 1))) 0) (codeOf c)
-              ≡ (b && sameCategory (categoryOf (seatOn seats i .step - 1)) c)
-          go true = holds-only (categoryOf (seatOn seats i .step - 1)) c
-          go false = holds-none c
+          rw (read .asked-at i (row-inside i t) t, read .wanted-at i (row-inside i t) t, t, in-row r seats i t .step)
+          (sameOr (seatOn seats i .institute) (suc j)
+          (λ e.
+          let here : seatOn seats i .institute - 1 ≡ j = omega (arith, e) in
+          rw (eq-eqb _ _ e, here) (holds-only (categoryAt r j (seatOn seats i .step)) c))
+          (λ d. rw (ne-eqb _ _ d) (holds-none c)))
 
       absent : inRow r seats i ≡ false → offersBy (offerTo (suc j) asked wanted) i c ≡ listedAt r seats j i c
       absent f = rw (ne-eqb (getD asked i 0) (suc j) (λ z. omega (arith, no-offer i f)), f) (holds-none c)
 
-  pub offers-listed : (j : ℕ) → j < instituteCount r → offersBy (offerTo (suc j) asked wanted) ≡ listedAt r seats j
-  offers-listed j hj = fun-ext (λ i. fun-ext (λ c. offer-listed j i c hj))
+  pub offers-listed : (j : ℕ) → offersBy (offerTo (suc j) asked wanted) ≡ listedAt r seats j
+  offers-listed j = fun-ext (λ i. fun-ext (λ c. offer-listed j i c))

@@ -8,16 +8,19 @@ use lib.ListN.{length, getD, set, replicate, length-set}
 use lib.Seq.{getD-set-same, getD-set-other}
 use Rattle.round.specs.declared.entry.Category.{Category}
 use Rattle.round.specs.declared.head.Head.{Head}
-use Rattle.round.specs.Category.{codeOf, categoryOf}
+use Rattle.round.specs.Category.{codeOf}
 use Rattle.round.specs.Form.{seatWidth}
 use Rattle.round.specs.Round.{Round}
+use Rattle.round.specs.Places.{stepNumbers}
 use Rattle.round.specs.Reading.{roundOf}
+use Rattle.round.specs.Access.{InstituteKnown}
 use Rattle.choice.proofs.Counting.{clash, sameOr}
 use Rattle.choice.proofs.Steps.{sized}
 use Rattle.choice.proofs.Tabulate.{getD-zeros}
-use Rattle.offers.specs.Process.{Seat}
+use Rattle.offers.specs.Rows.{categoryAt}
+use Rattle.offers.specs.Process.{Seat, instituteCount}
 use Rattle.offers.specs.Areas.{seatIn}
-use Rattle.offers.proofs.Sweeps.Known.{candidates-many}
+use Rattle.offers.proofs.Sweeps.Known.{candidates-many, institutes-many, knows-institute}
 use Rattle.review.specs.Finding.{inRow}
 use Rattle.review.specs.Outcome.{listFor}
 use Rattle.review.specs.Tables.{UnderReview, SeatsRead, AllRead}
@@ -57,13 +60,18 @@ module _ {file : List ℕ} {h : Head} {candidates merits list : List ℕ} (at : 
   all-read {asked = asked} {wanted = wanted} s e = subst (λ n. SeatsRead r seats n asked wanted) (e ∙ sym (candidates-many (at .hand))) s
 
   module _ {k : ℕ} (inside : k < h .candidates) {b : Bool} (told : b ≡ inRow r seats k) where
-    -- the seat in the row has a step of at least 1 that fits into a byte, as the code has read it
-    module _ {step : ℕ} (reads-step : step ≡ seatIn (h .form) list k .step) (t : b ≡ true) where
-      pub row-step-least : 1 ≤ step
-      row-step-least = omega (arith, row-numbers r seats k (sym told ∙ t), ap (λ (s : Seat). s .step) (bytes-seat at inside))
+    -- the seat in the row names an institute and a step of it, as the code has read them
+    module _ {number : ℕ} (reads : number ≡ seatIn (h .form) list k .institute) (t : b ≡ true) where
+      numbers : (1 ≤ number) × (number ≤ instituteCount r) × (1 ≤ seatIn (h .form) list k .step) × (seatIn (h .form) list k .step ≤ stepNumbers r (number - 1))
+      numbers = rw (reads, ← bytes-seat at inside) (row-numbers r seats k (sym told ∙ t))
 
-      pub row-step-few : step < 256
-      row-step-few = omega (arith, row-numbers r seats k (sym told ∙ t), ap (λ (s : Seat). s .step) (bytes-seat at inside))
+      pub row-institute-least : 1 ≤ number
+      row-institute-least = numbers .0
+
+      pub row-step-known : {step : ℕ} → step ≡ seatIn (h .form) list k .step
+          → InstituteKnown file h merits (number - 1) × ((1 ≤ step) × (step ≤ stepNumbers r (number - 1)))
+      row-step-known e =
+          (knows-institute (at .hand) (omega (arith, numbers .0, numbers .1, institutes-many (at .hand))), rw e (numbers .2, numbers .3))
 
     module _ {asked wanted : List ℕ} (s : SeatsRead r seats k asked wanted) where
       pub one-skipped : b ≡ false → {asked' wanted' : List ℕ} → asked' ≡ asked → wanted' ≡ wanted → SeatsRead r seats (k + 1) asked' wanted'
@@ -79,7 +87,7 @@ module _ {file : List ℕ} {h : Head} {candidates merits list : List ℕ} (at : 
           }
 
       pub one-read : b ≡ true → {asked' wanted' : List ℕ} {number step categories : ℕ} {c : Category} → number ≡ seatIn (h .form) list k .institute
-          → step ≡ seatIn (h .form) list k .step → c ≡ categoryOf (step - 1) → categories ≡ 2 ^ codeOf c
+          → step ≡ seatIn (h .form) list k .step → c ≡ categoryAt r (number - 1) step → categories ≡ 2 ^ codeOf c
           → asked' ≡ set asked k number → wanted' ≡ set wanted k categories → SeatsRead r seats (k + 1) asked' wanted'
       one-read t {number = number} {categories = categories} en ep ec es ea ew =
           let in-asked : k < length asked = omega (arith, asked-long s) in
@@ -92,7 +100,7 @@ module _ {file : List ℕ} {h : Head} {candidates merits list : List ℕ} (at : 
                 (λ e. rw (e, bytes-seat at inside) (getD-set-same asked k number 0 in-asked ∙ en))
                 (λ d. getD-set-other asked k i number 0 d ∙ s .asked-at i (omega arith) u);
             wanted-at = λ i l u. sameOr i k
-                (λ e. rw (e, bytes-seat at inside, ← ep) (getD-set-same wanted k categories 0 in-wanted ∙ es ∙ ap (λ (x : Category). 2 ^ codeOf x) ec))
+                (λ e. rw (e, bytes-seat at inside, ← en, ← ep) (getD-set-same wanted k categories 0 in-wanted ∙ es ∙ ap (λ (x : Category). 2 ^ codeOf x) ec))
                 (λ d. getD-set-other wanted k i categories 0 d ∙ s .wanted-at i (omega arith) u);
             nobody = λ i l n. sameOr i k
                 (λ e. clash (sym told ∙ t) (rw e at n))

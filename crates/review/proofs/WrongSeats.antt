@@ -74,7 +74,7 @@ module _ (file list : List ℕ) {asked wanted steps : List ℕ}
       let j : ℕ = seatOn seats i .institute - 1 in
       let numbers = row-numbers r seats i t in
       steps-given .given i j l (read .asked-at i l t ∙ (let e : seatOn seats i .institute ≡ suc j = omega arith in e))
-      ∙ ap (λ (offers : OfferSet). stepFor r j offers i) (offers-listed file list read j (omega arith))
+      ∙ ap (λ (offers : OfferSet). stepFor r j offers i) (offers-listed file list read j)
 
   -- the tables have an offer and the step of the seat just where the seat is in the row and its step is the one that is due
   right-by : (i : ℕ) → i < candidateCount r

@@ -1,4 +1,4 @@
--- What a review finds on a list of seats (document 02, Point 5). Candidates, institutes and the entries of a row have numbers from 0 here; a
+-- What a review finds on a list of seats (document 02, Points 5 and 7). Candidates, institutes and the entries of a row have numbers from 0 here; a
 -- finding names a candidate, and the institute of an entry, by its number from 1.
 use Prim.Native.Nat.{ℕ, suc, _-_}
 use mathlib.Core.Bool.{Bool, cond, not, _&&_, _||_}

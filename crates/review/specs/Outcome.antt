@@ -1,4 +1,4 @@
--- What a review answers and what it leaves in the work area (document 02, Points 5 and 6), for every input.
+-- What a review answers and what it leaves in the work area (document 02, Points 5 to 7), for every input.
 use Prim.Native.Nat.{ℕ, _*_}
 use mathlib.Core.Path.{_≡_}
 use mathlib.Core.Bool.{cond}

@@ -1,4 +1,4 @@
--- The promise of the review (document 02, Points 5 and 6), for every input. That no call reads outside the file or the list, goes wrong or fails to
+-- The promise of the review (document 02, Points 5 to 7), for every input. That no call reads outside the file or the list, goes wrong or fails to
 -- finish is part of what it is for a function to be proved; the file and the list are only read.
 use mathlib.Core.Path.{_≡_}
 use Prim.Native.Nat.{ℕ}

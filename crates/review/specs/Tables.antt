@@ -10,10 +10,11 @@ use lib.ListN.{length, getD, set}
 use Rattle.round.specs.declared.entry.Category.{Category}
 use Rattle.round.specs.declared.form.Form.{Form}
 use Rattle.round.specs.declared.head.Head.{Head}
-use Rattle.round.specs.Category.{codeOf, categoryOf}
+use Rattle.round.specs.Category.{codeOf}
 use Rattle.round.specs.Form.{seatWidth}
 use Rattle.round.specs.Round.{Round}
 use Rattle.round.specs.Reading.{roundOf}
+use Rattle.offers.specs.Rows.{categoryAt}
 use Rattle.offers.specs.Offers.{OfferSet, stepFor}
 use Rattle.offers.specs.Process.{Seat, isNone, candidateCount}
 use Rattle.offers.specs.Areas.{seatIn}
@@ -28,13 +29,12 @@ pub record UnderReview (file : List ℕ) (h : Head) (candidates merits list : Li
   pub hand : AtHand file h candidates merits
   pub size : length list ≡ seatWidth (h .form) * h .candidates
 
--- of the first k candidates two tables have the seats that are in their rows, and of nobody else any; step 6 has number 5 in `wanted-at`, which is
--- open
+-- of the first k candidates two tables have the seats that are in their rows, and of nobody else any
 pub record SeatsRead (r : Round) (list : List Seat) (k : ℕ) (asked wanted : List ℕ) : Type 0 where
   pub asked-many : length asked ≡ candidateCount r
   pub wanted-many : length wanted ≡ candidateCount r
   pub asked-at : (i : ℕ) → i < k → inRow r list i ≡ true → getD asked i 0 ≡ seatOn list i .institute
-  pub wanted-at : (i : ℕ) → i < k → inRow r list i ≡ true → getD wanted i 0 ≡ 2 ^ codeOf (categoryOf (seatOn list i .step - 1))
+  pub wanted-at : (i : ℕ) → i < k → inRow r list i ≡ true → getD wanted i 0 ≡ 2 ^ codeOf (categoryAt r (seatOn list i .institute - 1) (seatOn list i .step))
   pub nobody : (i : ℕ) → i < k → inRow r list i ≡ false → getD asked i 0 ≡ 0
   pub later : (i : ℕ) → k ≤ i → getD asked i 0 ≡ 0
 

@@ -17,7 +17,7 @@ use round::reader::narrow_table;
 use round::reader::read_round;
 use round::reader::wide_table;
 ghost use mathlib.Core.Path.{_≡_};
-ghost use Prim.Native.Nat.{_≤_};
+ghost use Prim.Native.Nat.{_*_, _≤_};
 ghost use lib.ListN.{length, replicate};
 ghost use Rattle.round.specs.declared.form.Form.the-variants.{Narrow, Wide};
 ghost use Rattle.round.specs.Form.{institutesMost};
@@ -111,9 +111,9 @@ fn review_round(
     said
 }
 
-// The review of a list for a round file, with a table that has room for its merit lists.
+// The review of a list for a round file, with a table that has room for its merit lists and its institutes.
 fn review_with(file: &[u8], merits: &mut [usize], list: &[u8], work: &mut [u8]) -> Judgement
-    requires { ⌜ institutesMost (formOf (now file)) ≤ length (now merits) ⌝ }
+    requires { ⌜ 2 * institutesMost (formOf (now file)) ≤ length (now merits) ⌝ }
     ensures { λ r. ⌜ Promise (now (file .entry)) (now (list .entry)) (now (work .entry)) r (now (work .exit)) ⌝ }
 {
     let mut candidates = candidate_table();

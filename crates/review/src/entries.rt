@@ -5,21 +5,22 @@ use offers::choosing::choose_anew;
 use offers::gather::offer_to;
 use offers::offering::only;
 use round::access::row_entry;
+use round::access::step_category;
 use round::entry::Category;
 use round::entry::code_of;
-use round::entry::step_category;
 use round::head::Head;
+use round::word::wide;
 ghost use mathlib.Core.Path.{_≡_};
 ghost use mathlib.Core.Bool.{not, _&&_};
-ghost use Prim.Native.Nat.{suc, _-_, _≤_, _<_};
+ghost use Prim.Native.Nat.{suc, _≤_, _<_};
 ghost use lib.Dec.{eqb};
 ghost use lib.ListN.{length, set};
-ghost use Rattle.round.specs.Category.{categoryOf};
 ghost use Rattle.round.specs.Lists.{first};
-ghost use Rattle.round.specs.Places.{candidateAt, entryAt};
+ghost use Rattle.round.specs.Places.{candidateAt, entryAt, stepNumbers};
 ghost use Rattle.round.specs.Reading.{roundOf};
+ghost use Rattle.round.specs.Access.{InstituteKnown};
 ghost use Rattle.offers.specs.Offers.{stepFor};
-ghost use Rattle.offers.specs.Rows.{rowAt, sameCategory};
+ghost use Rattle.offers.specs.Rows.{rowAt, sameCategory, categoryAt};
 ghost use Rattle.offers.specs.Sweeps.{offerTo, offersBy};
 ghost use Rattle.offers.specs.Held.{AtHand};
 ghost use Rattle.review.specs.Finding.{wouldTake, entryFinding};
@@ -94,14 +95,16 @@ fn step_with(
     step
 }
 
-// Whether a step, 0 for none, takes entries of a category.
-fn takes(step: u8, category: Category) -> bool
-    ensures { λ r. ⌜ r ≡ (not (eqb step 0) && sameCategory (categoryOf (step - 1)) category) ⌝ }
+// Whether a step of institute j, from 0, takes entries of a category; 0 is no step.
+fn takes(file: &[u8], h: Head, merits: &[usize], j: usize, step: usize, category: Category) -> bool
+    requires { ⌜ InstituteKnown (now file) h (now merits) j ⌝ }
+    requires { ⌜ step ≤ stepNumbers (roundOf (now file)) j ⌝ }
+    ensures { λ r. ⌜ r ≡ (not (eqb step 0) && sameCategory (categoryAt (roundOf (now (file .entry))) j step) category) ⌝ }
 {
     if step == 0 {
         return false;
     }
-    code_of(step_category(step)) == code_of(category)
+    code_of(step_category(file, h, merits, j, step)) == code_of(category)
 }
 
 // Whether the entry at place k of candidate i's row would be chosen if that one entry were added; the tables of offers are as before.
@@ -139,7 +142,7 @@ fn would_take(
         institute - 1,
         category,
     );
-    takes(step, category)
+    takes(file, h, merits, institute - 1, wide(step), category)
 }
 
 // The place of the best of the first `above` entries of candidate i's row that would be chosen; `above` where none would.

@@ -4,9 +4,10 @@ use offers::list::step_at;
 use offers::offering::only;
 use round::access::row_entry;
 use round::access::row_length;
+use round::access::step_category;
+use round::access::step_numbers;
 use round::entry::Category;
 use round::entry::code_of;
-use round::entry::step_category;
 use round::head::Head;
 use round::word::within;
 ghost use mathlib.Core.Path.{_≡_};
@@ -69,11 +70,15 @@ pub fn entries_above(
     let form = h.form;
     let institute = institute_at(list, form, i);
     let step = step_at(list, form, i);
-    if within(1, h.institutes, institute) && within(1, 6, step) {
-        rank_in(file, candidates, i, institute, step_category(step as u8))
-    } else {
-        row_length(file, candidates, i)
+    if !within(1, h.institutes, institute) {
+        return row_length(file, candidates, i);
     }
+    let j = institute - 1;
+    if !within(1, step_numbers(file, h, merits, j), step) {
+        return row_length(file, candidates, i);
+    }
+    let category = step_category(file, h, merits, j, step);
+    rank_in(file, candidates, i, institute, category)
 }
 
 // Whether candidate i's listed seat is in the row.
@@ -109,8 +114,11 @@ pub fn read_seats(
     let form = h.form;
     for i in 0..asked.len() {
         if in_row(file, h, candidates, merits, list, i) {
-            asked[i] = institute_at(list, form, i) as u16;
-            wanted[i] = only(step_category(step_at(list, form, i) as u8));
+            let institute = institute_at(list, form, i);
+            let step = step_at(list, form, i);
+            let category = step_category(file, h, merits, institute - 1, step);
+            asked[i] = institute as u16;
+            wanted[i] = only(category);
         }
     }
 }

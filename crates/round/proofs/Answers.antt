@@ -1,20 +1,22 @@
 -- What it says of a record that its questions were answered yes, as facts.
-use Prim.Native.Nat.{ℕ, _+_, _*_, _-_, _%_, _^_, _<_, _≤_}
-use mathlib.Core.Path.{_≡_}
-use mathlib.Core.Bool.{Bool, true, _&&_, _||_}
+use Prim.Native.Nat.{ℕ, _+_, _*_, _-_, _/_, _%_, _^_, _<_, _≤_}
+use mathlib.Core.Path.{_≡_, refl, sym, ap, _∙_}
+use mathlib.Core.Bool.{Bool, true, false, cond, _&&_, _||_}
 use mathlib.Core.Logic.{_⊎_, inl, inr, ⊎-elim}
-use mathlib.Core.List.{List}
+use mathlib.Core.List.{List, []}
 use native.Mathlib.Omega.{arith}
+use native.Mathlib.Nat.{div-add-mod'}
 use borrow.Author.Tests.{leb-true, eqb-true, eqb-false}
 use lib.Dec.{leb, eqb}
 use lib.ListN.{length, getD, drop, length-take, length-drop}
 use Rattle.round.specs.declared.form.Form.{Form}
 use Rattle.round.specs.declared.head.Head.{Head as CodeHead}
-use Rattle.round.specs.Form.{institutesMost, kindDue, entryWidth}
+use Rattle.round.specs.Form.{institutesMost, entryWidth}
 use Rattle.round.specs.Lists.{sumOf}
-use Rattle.round.specs.Records.{Head, headIn, kindAt, lengthAt, bodyAt}
-use Rattle.round.specs.Questions.{within, lengthAllowed, firstNo, questionsAt, kindQuestions, headQuestions, instituteQuestions, candidateQuestions, meritQuestions, positionsIn, reservedIn, entryCount, instituteIn, codeIn, meritCount, meritIn}
-use Rattle.round.specs.Read.{asHead, InRange, InstituteBody, CandidateBody}
+use Rattle.round.specs.Records.{Head, headIn, kindAt, lengthAt, bodyAt, ownSteps, kindDue}
+use Rattle.round.specs.Steps.{stepWidth, stepCount, positionsIn, reservedIn, stepCode, receiverIn}
+use Rattle.round.specs.Questions.{within, instituteAllowed, lengthAllowed, firstNo, questionsAt, kindQuestions, headQuestions, listQuestions, instituteQuestions, candidateQuestions, meritQuestions, entryCount, instituteIn, codeIn, meritCount, meritIn}
+use Rattle.round.specs.Read.{asHead, InRange, InstituteBody, LawfulSteps, CandidateBody}
 use Rattle.round.proofs.Words.{and-fst, and-snd, and-no, or-cases, all-at, apart-at}
 use Rattle.round.proofs.Passed.{yes}
 
@@ -27,7 +29,7 @@ within-to low high x e = leb-true x high (and-snd (leb low x) _ e)
 -- 1 to 4
 pub record LeadYes (file : List ℕ) (h : Head) (kind start : ℕ) : Type 0 where
   pub lead-there : start + 4 ≤ length file
-  pub kind-due : kindAt file start ≡ kindDue (h .form) kind
+  pub kind-due : kindAt file start ≡ kindDue h kind
   pub allowed : lengthAllowed h kind (lengthAt file start) ≡ true
   pub body-there : start + 4 + lengthAt file start ≤ length file
   pub body-length : length (bodyAt file start) ≡ lengthAt file start
@@ -70,18 +72,40 @@ head-yes form body e =
       policy-most = leb-true _ _ (and-snd (leb (h .types) 8) _ c);
     }
 
--- 6 and 7
-pub record InstituteYes (types : ℕ) (body : List ℕ) : Type 0 where
-  pub positions-few : sumOf 5 (positionsIn types body) ≤ 1024
-  pub reserved-within : (code : ℕ) → code < 5 → sumOf types (reservedIn types body code) ≤ positionsIn types body code
+-- 17 and 18
+pub record ListYes (h : Head) (body : List ℕ) : Type 0 where
+  pub code-known : (k : ℕ) → k < stepCount h body → stepCode h body k ≤ 4
+  pub receiver-later : (k : ℕ) → k < stepCount h body
+      → (receiverIn h body k ≡ 0) ⊎ ((k + 2 ≤ receiverIn h body k) × (receiverIn h body k ≤ stepCount h body))
 
-pub institute-yes : (h : Head) (body : List ℕ) → firstNo (instituteQuestions h body) ≡ 0 → InstituteYes (h .types) body
+pub list-yes : (h : Head) (body : List ℕ) → firstNo (listQuestions h body) ≡ 0 → ListYes h body
+list-yes h body e =
+    let steps : ℕ = stepCount h body in
+    let receiver : ℕ → ℕ = receiverIn h body in
+    let later : ℕ → Bool = λ k. eqb (receiver k) 0 || within (k + 2) steps (receiver k) in
+    let a = yes 16 _ _ e in
+    let b = yes 17 _ _ (a .1) in
+    record {
+      code-known = λ k l. leb-true _ _ (all-at steps (λ k. leb (stepCode h body k) 4) (a .0) k l);
+      receiver-later = λ k l.
+          ⊎-elim (λ e. inl (eqb-true _ _ e)) (λ e. inr (within-from (k + 2) steps (receiver k) e, within-to (k + 2) steps (receiver k) e))
+          (or-cases (eqb (receiver k) 0) _ (all-at steps later (b .0) k l));
+    }
+
+-- 6 and 7, and of an institute that lists its own steps 17 and 18
+pub record InstituteYes (h : Head) (body : List ℕ) : Type 0 where
+  pub positions-few : sumOf (stepCount h body) (positionsIn h body) ≤ 1024
+  pub reserved-within : (k : ℕ) → k < stepCount h body → sumOf (h .types) (reservedIn h body k) ≤ positionsIn h body k
+  pub listed : ownSteps h ≡ true → ListYes h body
+
+pub institute-yes : (h : Head) (body : List ℕ) → firstNo (instituteQuestions h body) ≡ 0 → InstituteYes h body
 institute-yes h body e =
     let a = yes 5 _ _ e in
     let b = yes 6 _ _ (a .1) in
     record {
       positions-few = leb-true _ _ (a .0);
-      reserved-within = λ code l. leb-true _ _ (all-at 5 (λ code. leb (sumOf (h .types) (reservedIn (h .types) body code)) (positionsIn (h .types) body code)) (b .0) code l);
+      reserved-within = λ k l. leb-true _ _ (all-at (stepCount h body) (λ k. leb (sumOf (h .types) (reservedIn h body k)) (positionsIn h body k)) (b .0) k l);
+      listed = λ own. list-yes h body (sym (ap (λ (own : Bool). firstNo (cond own (listQuestions h body) [])) own) ∙ b .1);
     }
 
 -- 8 to 10
@@ -138,8 +162,27 @@ merit-yes h body e =
 pub length-head : (h : Head) (len : ℕ) → lengthAllowed h 1 len ≡ true → len ≡ 8
 length-head h len e = eqb-true len 8 e
 
-pub length-institute : (h : Head) (len : ℕ) → lengthAllowed h 2 len ≡ true → len ≡ 10 + 10 * h .types
-length-institute h len e = eqb-true len (10 + 10 * h .types) e
+-- at most 12 whole steps
+pub record LengthInstitute (h : Head) (len : ℕ) : Type 0 where
+  pub most : cond (ownSteps h) (len / stepWidth h) 5 ≤ 12
+  pub by-width : len ≡ cond (ownSteps h) (len / stepWidth h) 5 * stepWidth h
+
+abbrev widthBy : Bool → ℕ → ℕ
+widthBy own types = cond own 2 0 + (2 + 2 * types)
+
+pub length-institute : (h : Head) (len : ℕ) → instituteAllowed h len ≡ true → LengthInstitute h len
+length-institute h len e = let both = go (ownSteps h) e in record { most = both .0; by-width = both .1 }
+  where
+    whole : (w : ℕ) → len % w ≡ 0 → len ≡ len / w * w
+    whole w z = omega (arith, div-add-mod' len w)
+
+    go : (own : Bool)
+        → cond own (within 1 12 (len / widthBy own (h .types)) && eqb (len % widthBy own (h .types)) 0) (eqb len (10 + 10 * h .types)) ≡ true
+        → (cond own (len / widthBy own (h .types)) 5 ≤ 12) × (len ≡ cond own (len / widthBy own (h .types)) 5 * widthBy own (h .types))
+    go true e =
+        let w : ℕ = 2 + (2 + 2 * h .types) in
+        (within-to 1 12 (len / w) (and-fst _ _ e), whole w (eqb-true (len % w) 0 (and-snd (within 1 12 (len / w)) _ e)))
+    go false e = (omega arith, omega (arith, eqb-true len (10 + 10 * h .types) e))
 
 pub record LengthCandidate (form : Form) (len : ℕ) : Type 0 where
   pub least : 2 ≤ len
@@ -160,10 +203,34 @@ length-candidate h len e =
 pub head-long : (h : Head) (kind len : ℕ) → kind ≡ 1 → lengthAllowed h kind len ≡ true → 8 ≤ len
 head-long h kind len e a = omega (arith, length-head h len (rw e at a))
 
-pub institute-long : (k : CodeHead) (kind : ℕ) (body : List ℕ) → InRange (asHead k) → kind ≡ 2 → lengthAllowed (asHead k) kind (length body) ≡ true → InstituteBody (k .types) body
-institute-long k kind body y e a = record { types-most = y .types-most; long = length-institute (asHead k) (length body) (rw e at a) }
+pub institute-body : (h : Head) (body : List ℕ) → h .types ≤ 8 → instituteAllowed h (length body) ≡ true → InstituteBody h body
+institute-body h body l e =
+    let fits = length-institute h (length body) e in
+    record { types-most = l; steps-most = fits .most; long = fits .by-width }
+
+pub institute-long : (k : CodeHead) (kind : ℕ) (body : List ℕ) → InRange (asHead k) → kind ≡ 2 → lengthAllowed (asHead k) kind (length body) ≡ true → InstituteBody (asHead k) body
+institute-long k kind body y e a = institute-body (asHead k) body (y .types-most) (rw e at a)
 
 pub candidate-long : (k : CodeHead) (kind : ℕ) (body : List ℕ) → kind ≡ 3 → lengthAllowed (asHead k) kind (length body) ≡ true → CandidateBody (k .form) body
 candidate-long k kind body e a =
     let fits = length-candidate (asHead k) (length body) (rw e at a) in
     record { least = fits .least; most = fits .most }
+
+-- the steps of an institute of which 17 and 18, where they are asked, are answered yes
+pub steps-lawful : (h : Head) (body : List ℕ) → InstituteBody h body → (ownSteps h ≡ true → ListYes h body) → LawfulSteps h body
+steps-lawful h body long listed = record { long = long; coded = coded (ownSteps h) refl; handed-on = handed-on (ownSteps h) refl }
+  where
+    coded : (own : Bool) → ownSteps h ≡ own → (k : ℕ) → k < stepCount h body → stepCode h body k < 5
+    coded true e k l = omega (arith, listed e .code-known k l)
+    coded false e k l = rw e (rw e at l)
+
+    sixth : (b : Bool) → cond b 6 0 ≤ 12
+    sixth true = omega arith
+    sixth false = omega arith
+
+    handed-on : (own : Bool) → ownSteps h ≡ own → (k : ℕ) → k < stepCount h body → receiverIn h body k ≤ 12
+    handed-on true e k l =
+        ⊎-elim (λ (z : receiverIn h body k ≡ 0). omega arith)
+        (λ (z : (k + 2 ≤ receiverIn h body k) × (receiverIn h body k ≤ stepCount h body)). omega (arith, z .1, long .steps-most))
+        (listed e .receiver-later k l)
+    handed-on false e k l = rw e (sixth (eqb (h .policy) 1 && eqb k 3))

@@ -1,26 +1,32 @@
 -- Where the records of an accepted file stand, and what their bodies mean.
-use Prim.Native.Nat.{ℕ, zero, suc, _+_, _*_, _<_, _≤_}
-use mathlib.Core.Path.{_≡_, sym, ap, ap₂, _∙_}
+use Prim.Native.Nat.{ℕ, _+_, _-_, _<_, _≤_}
+use mathlib.Core.Path.{_≡_, refl, sym, ap, ap₂, _∙_}
+use mathlib.Core.Bool.{Bool, true, false}
 use mathlib.Core.List.{List}
 use native.Mathlib.Omega.{arith}
-use lib.ListN.{length, getD}
+use mir.Syntax.{w8}
+use mir.Val.{Fits}
+use lib.ListN.{length, getD, length-drop}
+use lib.Seq.{getD-drop}
 use Rattle.round.specs.declared.form.Form.{Form}
 use Rattle.round.specs.declared.head.Head.{Head as CodeHead}
 use Rattle.round.specs.declared.entry.Category.{Category}
 use Rattle.round.specs.declared.entry.Entry.{Entry}
 use Rattle.round.specs.Category.{categoryOf}
 use Rattle.round.specs.Lists.{tabulate}
-use Rattle.round.specs.Records.{Head, formOf, headOf, lengthAt, bodyAt, startOf, bodyOf, instituteRecord, candidateRecord, meritRecord}
+use Rattle.round.specs.Records.{Head, formOf, headOf, lengthAt, bodyAt, startOf, bodyOf, ownSteps, instituteRecord, candidateRecord, meritRecord}
+use Rattle.round.specs.Steps.{stepCount, stepCode}
 use Rattle.round.specs.Questions.{entryCount, instituteIn, codeIn, meritCount, meritIn}
-use Rattle.round.specs.Round.{Candidate, Institute}
-use Rattle.round.specs.Reading.{stepsIn, entryIn, candidateIn, instituteFrom}
-use Rattle.round.specs.Places.{entryAt, meritAt, noEntry}
-use Rattle.round.specs.Read.{CandidateBody}
+use Rattle.round.specs.Round.{StepRule, Candidate, Institute}
+use Rattle.round.specs.Reading.{stepsIn, entryIn, candidateIn, instituteFrom, roundOf}
+use Rattle.round.specs.Places.{entryAt, meritAt, stepAt, stepNumbers, noEntry, noStep}
+use Rattle.round.specs.Read.{asHead, LawfulSteps, CandidateBody}
 use Rattle.round.specs.Access.{candidateOf, instituteOf, CandidateKnown, MeritKnown, InstituteKnown, CandidateRead, MeritRead, BodyRead}
 use Rattle.round.proofs.Words.{length-tabulate, tabulate-at}
-use Rattle.round.proofs.Passed.{Passed, passed}
+use Rattle.round.proofs.Forms.{institutes-few as form-few}
+use Rattle.round.proofs.Passed.{passed}
 use Rattle.round.proofs.Answers as answers
-use Rattle.round.proofs.Sound.{candidate-at, institute-at, head-fits}
+use Rattle.round.proofs.Sound.{listed-length, listed-category, numbered-category, candidate-at, institute-at, listed-round, head-fits}
 
 module _ (file starts : List ℕ) (i : ℕ) (y : CandidateKnown file starts i) where
   start : getD starts i 0 ≡ startOf file (candidateRecord (headOf file) i)
@@ -103,48 +109,84 @@ module _ (file : List ℕ) (j : ℕ) {body : List ℕ} (r : MeritRead file j bod
   list-place p l e =
       e ∙ (sym (tabulate-at (meritCount body) (meritIn body) 0 p (omega (arith, list-length))) ∙ ap (λ (s : List ℕ). getD s p 0) (r .merit-of))
 
--- institutes have one length
-module _ (file : List ℕ) (p : Passed file) where
-  institute-start : (j : ℕ) → j ≤ headOf file .institutes → startOf file (1 + j) ≡ 12 + j * (14 + 10 * headOf file .types)
-  unfolding startOf
-  institute-start zero l =
-      omega (arith, answers.length-head (headOf file) (lengthAt file 0) (answers.lead-yes file (headOf file) 1 0 (p .head-yes) .allowed))
-  institute-start (suc j) l =
-      let before : startOf file (1 + j) ≡ 12 + j * (14 + 10 * headOf file .types) = institute-start j (omega arith) in
-      let e : 1 + suc j ≡ suc (1 + j) = omega arith in
-      let len = answers.length-institute (headOf file) (lengthAt file (startOf file (1 + j))) (answers.lead-yes file (headOf file) 2 (startOf file (1 + j)) (p .institute-yes j (omega arith)) .allowed) in
-      rw e (omega (arith, before, len))
+module _ (file : List ℕ) (k : CodeHead) (starts : List ℕ) (j : ℕ) (y : InstituteKnown file k starts j) where
+  abbrev h : Head
+  h = headOf file
 
-module _ (file : List ℕ) (k : CodeHead) (j : ℕ) (y : InstituteKnown file k j) where
-  below : j < headOf file .institutes
-  below = omega (arith, ap (λ (h : Head). h .institutes) (y .head), y .below)
+  count : k .institutes ≡ h .institutes
+  count = ap (λ (h : Head). h .institutes) (y .head)
 
-  the-start : 12 + j * (14 + 10 * k .types) ≡ startOf file (instituteRecord (headOf file) j)
-  the-start =
-      ap (λ (h : Head). 12 + j * (14 + 10 * h .types)) (y .head)
-      ∙ sym (institute-start file (passed file (y .accepted)) j (omega (arith, below)))
+  below : j < h .institutes
+  below = omega (arith, count, y .below)
 
-  the-lead : answers.LeadYes file (headOf file) 2 (12 + j * (14 + 10 * k .types))
-  the-lead = rw the-start (answers.lead-yes file (headOf file) 2 (startOf file (instituteRecord (headOf file) j)) (passed file (y .accepted) .institute-yes j below))
+  the-start : getD starts (k .institutes + j) 0 ≡ startOf file (instituteRecord h j)
+  the-start = ap (λ (m : ℕ). getD starts (m + j) 0) count ∙ sym (getD-drop (h .institutes) starts j 0) ∙ y .table .starts-at j below
 
-  pub types-few : k .types ≤ 8
-  types-few = rw (ap (λ (h : Head). h .types) (y .head)) (head-fits file (passed file (y .accepted)) .types-most)
+  the-lead : answers.LeadYes file h 2 (getD starts (k .institutes + j) 0)
+  the-lead = rw the-start (answers.lead-yes file h 2 (startOf file (instituteRecord h j)) (passed file (y .accepted) .institute-yes j below))
 
-  pub institute-there : 12 + j * (14 + 10 * k .types) + 4 + lengthAt file (12 + j * (14 + 10 * k .types)) ≤ length file
+  -- the table has a place for each institute behind those of the merit lists
+  pub institute-place : k .institutes + j < length starts
+  institute-place = omega (arith, count, below, y .table .room, length-drop (h .institutes) starts)
+
+  pub institutes-few : k .institutes ≤ 1000
+  institutes-few = omega (arith, count, head-fits file (passed file (y .accepted)) .institutes-most, form-few (h .form))
+
+  pub institute-there : getD starts (k .institutes + j) 0 + 4 + lengthAt file (getD starts (k .institutes + j) 0) ≤ length file
   institute-there = the-lead .body-there
 
-  pub institute-read : {body : List ℕ} → body ≡ bodyAt file (12 + j * (14 + 10 * k .types)) → BodyRead file k j body
+  -- the steps of an accepted body are lawful
+  lawful : (body : List ℕ) → body ≡ bodyAt file (getD starts (k .institutes + j) 0) → LawfulSteps h body
+  lawful body e =
+      let long = answers.institute-body h body (head-fits file (passed file (y .accepted)) .types-most) (rw (ap length e ∙ the-lead .body-length) (the-lead .allowed)) in
+      answers.steps-lawful h body long (answers.institute-yes h body (rw e (the-lead .body-yes)) .listed)
+
+  pub institute-read : {body : List ℕ} → body ≡ bodyAt file (getD starts (k .institutes + j) 0) → BodyRead file k j body
   unfolding instituteFrom
   institute-read {body} e =
-      let at : body ≡ bodyOf file (instituteRecord (headOf file) j) = e ∙ ap (bodyAt file) the-start in
-      let len = answers.length-institute (headOf file) (lengthAt file (12 + j * (14 + 10 * k .types))) (the-lead .allowed) in
+      let at : body ≡ bodyOf file (instituteRecord h j) = e ∙ ap (bodyAt file) the-start in
       record {
         body-of = at;
         steps-of =
-            ap₂ (λ (h : Head) (b : List ℕ). stepsIn (h .types) (h .policy) b) (y .head) at
+            ap₂ (λ (h : Head) (b : List ℕ). stepsIn h b) (y .head) at
             ∙ sym (ap (λ (o : Institute). o .steps) (institute-at file j below));
-        long = record {
-          types-most = types-few;
-          long = ap length e ∙ (the-lead .body-length ∙ (len ∙ ap (λ (h : Head). 10 + 10 * h .types) (sym (y .head))));
-        };
+        lawful = rw (y .head) (lawful body e);
       }
+
+  -- the numbers of the steps, by the flag that code has found: those of the body where institutes list their own, else six
+  module _ {b : Bool} (flag : b ≡ ownSteps (asHead k)) where
+    own-is : ownSteps h ≡ b
+    own-is = sym (flag ∙ ap (λ (h : Head). ownSteps h) (y .head))
+
+    pub six-numbers : b ≡ false → 6 ≡ stepNumbers (roundOf file) j
+    six-numbers off = rw (listed-round file ∙ own-is ∙ off)
+
+    pub six-fits : {step : ℕ} → b ≡ false → step ≤ stepNumbers (roundOf file) j → Fits w8 (step - 1)
+    six-fits off m = omega (arith, six-numbers off)
+
+    -- a step of document 01 has the category of its number
+    pub six-category : {c : Category} {code step : ℕ} → b ≡ false → c ≡ categoryOf code → code ≡ step - 1 → 1 ≤ step → step ≤ stepNumbers (roundOf file) j
+        → c ≡ stepAt (instituteOf file j) (step - 1) .category
+    unfolding instituteFrom
+    six-category {c} {code} {step} off e d l m =
+        e ∙ ap categoryOf d
+        ∙ sym (numbered-category h (bodyOf file (instituteRecord h j)) (own-is ∙ off) (step - 1) (omega (arith, six-numbers off)))
+        ∙ sym (ap (λ (o : Institute). stepAt o (step - 1) .category) (institute-at file j below))
+
+    module _ {body : List ℕ} (read : BodyRead file k j body) (own : b ≡ true) where
+      listed-numbers : stepNumbers (roundOf file) j ≡ length (instituteOf file j .steps)
+      listed-numbers = rw (listed-round file ∙ own-is ∙ own)
+
+      pub own-numbers : {count : ℕ} → count ≡ stepCount (asHead k) body → count ≡ stepNumbers (roundOf file) j
+      own-numbers e = e ∙ sym (listed-length (asHead k) body (sym flag ∙ own)) ∙ ap length (read .steps-of) ∙ sym listed-numbers
+
+      pub own-inside : {step : ℕ} → 1 ≤ step → step ≤ stepNumbers (roundOf file) j → step - 1 < stepCount (asHead k) body
+      own-inside l m = omega (arith, own-numbers {count = stepCount (asHead k) body} refl)
+
+      -- a listed step has the category of its code
+      pub own-category : {c : Category} {code step : ℕ} → c ≡ categoryOf code → code ≡ stepCode (asHead k) body (step - 1) → 1 ≤ step → step ≤ stepNumbers (roundOf file) j
+          → c ≡ stepAt (instituteOf file j) (step - 1) .category
+      own-category {c} {code} {step} e d l m =
+          e ∙ ap categoryOf d
+          ∙ sym (listed-category (asHead k) body (step - 1) (own-inside l m))
+          ∙ ap (λ (l : List StepRule). getD l (step - 1) noStep .category) (read .steps-of)

@@ -9,8 +9,7 @@ use lib.Dec.{leb, eqb}
 use lib.ListN.{length, take, drop}
 use Rattle.round.specs.declared.records.Part.{Part}
 use Rattle.round.specs.declared.records.Part.the-variants.{Lawful, Refused}
-use Rattle.round.specs.Form.{kindDue}
-use Rattle.round.specs.Records.{Head, kindAt, lengthAt, bodyAt, nextAt}
+use Rattle.round.specs.Records.{Head, kindAt, lengthAt, bodyAt, nextAt, kindDue}
 use Rattle.round.specs.Questions.{Question, firstNo, leadQuestions, kindQuestions, questionsAt, lengthAllowed}
 use Rattle.round.specs.Parts.{partBy}
 use Rattle.round.proofs.Passed.{yes}
@@ -104,7 +103,7 @@ module _ (file : List ℕ) (h : Head) (kind start : ℕ) where
 
   lead-found : firstNo (leadQuestions file h kind start) ≡ 0 → Found (nextAt file start)
   lead-found e =
-      let q = four-yes (leb (start + 4) (length file)) (eqb (kindAt file start) (kindDue (h .form) kind)) (lengthAllowed h kind (lengthAt file start)) (leb (nextAt file start) (length file)) 0 e in
+      let q = four-yes (leb (start + 4) (length file)) (eqb (kindAt file start) (kindDue h kind)) (lengthAllowed h kind (lengthAt file start)) (leb (nextAt file start) (length file)) 0 e in
       record { lead-yes = e; there = leb-true _ _ (q .0); allowed = q .2; ends = refl; whole = leb-true _ _ (q .3) }
 
   -- what comes after them decides
@@ -112,7 +111,7 @@ module _ (file : List ℕ) (h : Head) (kind start : ℕ) where
       → firstNo (questionsAt file h kind start) ≡ firstNo (kindQuestions h kind (bodyAt file start))
   unfolding questionsAt
   lead-then e =
-      let q = four-yes (leb (start + 4) (length file)) (eqb (kindAt file start) (kindDue (h .form) kind)) (lengthAllowed h kind (lengthAt file start)) (leb (nextAt file start) (length file)) 0 e in
+      let q = four-yes (leb (start + 4) (length file)) (eqb (kindAt file start) (kindDue h kind)) (lengthAllowed h kind (lengthAt file start)) (leb (nextAt file start) (length file)) 0 e in
       rw (q .0, q .1, q .2, q .3)
 
   module _ {r : Part} (got : r ≡ partBy (firstNo (leadQuestions file h kind start)) start (nextAt file start)) where

@@ -1,5 +1,6 @@
 pub mod Words
 pub mod Joined
+pub mod Steps
 pub mod Forms
 pub mod Passed
 pub mod Answers
@@ -11,3 +12,7 @@ pub mod Rest
 pub mod Prefix
 pub mod Bodies
 pub mod Rows
+pub mod Behind
+pub mod Listed
+pub mod Bytes
+pub mod Rewritten

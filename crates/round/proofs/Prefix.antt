@@ -1,30 +1,32 @@
--- The longest lawful narrow file has 55,372 bytes, the longest wide one 1,149,660, and one byte more of any file decides its verdict.
+-- The longest lawful narrow file has 60,172 bytes, the longest wide one 1,299,660, and one byte more of any file decides its verdict.
 use Prim.Native.Nat.{ℕ, zero, suc, _+_, _*_, _<_, _≤_}
 use mathlib.Core.Path.{_≡_, refl, sym, ap, ap₂, _∙_}
 use mathlib.Core.Bool.{Bool, true, false, cond, _&&_}
 use mathlib.Core.List.{List, [], _∷_, _++_}
 use native.Mathlib.Omega.{arith}
-use native.Mathlib.Nat.{mul-le-mul}
+use native.Mathlib.Nat.{mul-le-mul, mul-le-mul-right}
 use borrow.Author.Tests.{leb-true, leb-false, le-leb, ne-eqb, eqb-true}
 use lib.Dec.{leb, eqb}
 use lib.ListN.{length, take, drop, replicate, length-take}
 use lib.Seq.{getD-take, take-take, take-all}
 use Rattle.round.specs.declared.form.Form.{Form}
 use Rattle.round.specs.declared.form.Form.the-variants.{Narrow, Wide}
-use Rattle.round.specs.Form.{institutesMost, kindDue, entryWidth}
-use Rattle.round.specs.Records.{Head, formOf, headIn, headOf, dueAfter, word, kindAt, lengthAt, bodyAt, nextAt}
-use Rattle.round.specs.Questions.{even, rowAllowed, firstNo, questionsAt, kindQuestions, lengthAllowed}
+use Rattle.round.specs.Form.{institutesMost, entryWidth}
+use Rattle.round.specs.Records.{Head, formOf, headIn, headOf, dueAfter, word, kindAt, lengthAt, bodyAt, nextAt, kindDue}
+use Rattle.round.specs.Steps.{stepWidth}
+use Rattle.round.specs.Questions.{even, rowAllowed, instituteAllowed, firstNo, questionsAt, kindQuestions, lengthAllowed}
 use Rattle.round.specs.Refusal.{Verdict, passes, refused, verdictFrom, verdict}
 use Rattle.round.specs.Read.{InRange}
 use Rattle.round.proofs.Words.{and-fst, append-none}
+use Rattle.round.proofs.Steps.{width-most}
 use Rattle.round.proofs.Passed.{judged-yes, ending-yes}
 use Rattle.round.proofs.Answers as answers
 use Rattle.round.proofs.Rest.{head-questions}
 
 -- the bytes of the longest lawful file
 abbrev pub fileMost : Form → ℕ
-fileMost Narrow = 55372
-fileMost Wide = 1149660
+fileMost Narrow = 60172
+fileMost Wide = 1299660
 
 most-least : (form : Form) → 12 ≤ fileMost form
 most-least Narrow = omega arith
@@ -32,16 +34,16 @@ most-least Wide = omega arith
 
 -- the greatest body length that the table allows for a kind
 abbrev most : Head → ℕ → ℕ
-most h kind = cond (eqb kind 1) 8 (cond (eqb kind 2) (10 + 10 * h .types) (cond (eqb kind 3) (2 + 16 * entryWidth (h .form)) (2 * h .candidates)))
+most h kind = cond (eqb kind 1) 8 (cond (eqb kind 2) (12 * stepWidth h) (cond (eqb kind 3) (2 + 16 * entryWidth (h .form)) (2 * h .candidates)))
 
 allowed-most : (h : Head) (kind len : ℕ) → lengthAllowed h kind len ≡ true → len ≤ most h kind
 allowed-most h kind len = go (eqb kind 1) (eqb kind 2) (eqb kind 3)
   where
     go : (a b c : Bool)
-        → cond a (eqb len 8) (cond b (eqb len (10 + 10 * h .types)) (cond c (rowAllowed (h .form) len) (leb len (2 * h .candidates) && even len))) ≡ true
-        → len ≤ cond a 8 (cond b (10 + 10 * h .types) (cond c (2 + 16 * entryWidth (h .form)) (2 * h .candidates)))
+        → cond a (eqb len 8) (cond b (instituteAllowed h len) (cond c (rowAllowed (h .form) len) (leb len (2 * h .candidates) && even len))) ≡ true
+        → len ≤ cond a 8 (cond b (12 * stepWidth h) (cond c (2 + 16 * entryWidth (h .form)) (2 * h .candidates)))
     go true b c e = omega (arith, eqb-true len 8 e)
-    go false true c e = omega (arith, eqb-true len (10 + 10 * h .types) e)
+    go false true c e = let fits = answers.length-institute h len e in omega (arith, fits .by-width, mul-le-mul-right (stepWidth h) (fits .most))
     go false false true e = answers.length-candidate h len e .most
     go false false false e = leb-true len (2 * h .candidates) (and-fst (leb len (2 * h .candidates)) (even len) e)
 
@@ -54,21 +56,21 @@ total-run : (h : Head) (n kind : ℕ) (kinds : List ℕ) → total h (replicate 
 total-run h zero kind kinds = omega arith
 total-run h (suc n) kind kinds = omega (arith, total-run h n kind kinds)
 
--- the records after the head, and the 12 bytes of the head, by the numbers of the round
-by-numbers : (form : Form) (n m t : ℕ) → n ≤ 512 → m ≤ institutesMost form → t ≤ 8
-    → 12 + (m * (4 + (10 + 10 * t)) + (n * (4 + (2 + 16 * entryWidth form)) + m * (4 + 2 * n))) ≤ fileMost form
-by-numbers form n m t few some l = go form some
+-- the records after the head, and the 12 bytes of the head, by the numbers of the round and the bytes of a step
+by-numbers : (form : Form) (n m w : ℕ) → n ≤ 512 → m ≤ institutesMost form → w ≤ 20
+    → 12 + (m * (4 + 12 * w) + (n * (4 + (2 + 16 * entryWidth form)) + m * (4 + 2 * n))) ≤ fileMost form
+by-numbers form n m w few some l = go form some
   where
-    by-types : 4 + (10 + 10 * t) ≤ 94
-    by-types = omega arith
+    by-steps : 4 + 12 * w ≤ 244
+    by-steps = omega arith
 
     by-candidates : 4 + 2 * n ≤ 1028
     by-candidates = omega arith
 
     go : (form : Form) → m ≤ institutesMost form
-        → 12 + (m * (4 + (10 + 10 * t)) + (n * (4 + (2 + 16 * entryWidth form)) + m * (4 + 2 * n))) ≤ fileMost form
-    go Narrow some = omega (arith, mul-le-mul some by-types, mul-le-mul some by-candidates)
-    go Wide some = omega (arith, mul-le-mul some by-types, mul-le-mul some by-candidates)
+        → 12 + (m * (4 + 12 * w) + (n * (4 + (2 + 16 * entryWidth form)) + m * (4 + 2 * n))) ≤ fileMost form
+    go Narrow some = omega (arith, mul-le-mul some by-steps, mul-le-mul some by-candidates)
+    go Wide some = omega (arith, mul-le-mul some by-steps, mul-le-mul some by-candidates)
 
 total-due : (h : Head) → InRange h → 12 + total h (dueAfter h) ≤ fileMost (h .form)
 total-due h y =
@@ -80,7 +82,7 @@ total-due h y =
       total-run h m 2 (replicate n 3 ++ replicate m 4),
       total-run h n 3 (replicate m 4),
       lists,
-      by-numbers (h .form) n m (h .types) (y .candidates-most) (y .institutes-most) (y .types-most),
+      by-numbers (h .form) n m (stepWidth h) (y .candidates-most) (y .institutes-most) (width-most h (y .types-most)),
     )
 
 module _ (file : List ℕ) where
@@ -152,16 +154,16 @@ module _ (file : List ℕ) (cut : ℕ) (enough : 12 < cut) (long : cut ≤ lengt
         first : leb (start + 4) (length (take cut file)) ≡ leb (start + 4) (length file)
         first = le-leb (start + 4) (length (take cut file)) (omega (arith, length-cut)) ∙ sym (le-leb (start + 4) (length file) (omega arith))
 
-        second : eqb (kindAt (take cut file) start) (kindDue (h .form) kind) ≡ eqb (kindAt file start) (kindDue (h .form) kind)
-        second = ap (λ (n : ℕ). eqb n (kindDue (h .form) kind)) same-kind
+        second : eqb (kindAt (take cut file) start) (kindDue h kind) ≡ eqb (kindAt file start) (kindDue h kind)
+        second = ap (λ (n : ℕ). eqb n (kindDue h kind)) same-kind
 
         third : lengthAllowed h kind (lengthAt (take cut file) start) ≡ lengthAllowed h kind (lengthAt file start)
         third = ap (lengthAllowed h kind) same-length
 
         go : (b : Bool) → lengthAllowed h kind (lengthAt file start) ≡ b
-            → five (leb (start + 4) (length (take cut file))) (eqb (kindAt (take cut file) start) (kindDue (h .form) kind)) (lengthAllowed h kind (lengthAt (take cut file) start))
+            → five (leb (start + 4) (length (take cut file))) (eqb (kindAt (take cut file) start) (kindDue h kind)) (lengthAllowed h kind (lengthAt (take cut file) start))
             (leb (nextAt (take cut file) start) (length (take cut file))) (firstNo (kindQuestions h kind (bodyAt (take cut file) start)))
-            ≡ five (leb (start + 4) (length file)) (eqb (kindAt file start) (kindDue (h .form) kind)) (lengthAllowed h kind (lengthAt file start))
+            ≡ five (leb (start + 4) (length file)) (eqb (kindAt file start) (kindDue h kind)) (lengthAllowed h kind (lengthAt file start))
             (leb (nextAt file start) (length file)) (firstNo (kindQuestions h kind (bodyAt file start)))
         go true e =
             let l : lengthAt file start ≤ most h kind = allowed-most h kind (lengthAt file start) e in

@@ -1,12 +1,13 @@
 -- What the records after the head come to, put together from the three kinds in a row; and the whole file.
-use Prim.Native.Nat.{ℕ, _+_, _-_, _≤_}
+use Prim.Native.Nat.{ℕ, _+_, _*_, _-_, _≤_}
 use mathlib.Core.Path.{_≡_, refl, sym, ap, ap₂, _∙_}
 use mathlib.Core.Bool.{Bool, true, false, cond}
 use mathlib.Core.List.{List, [], _++_}
 use native.Mathlib.Omega.{arith}
 use borrow.Author.Tests.{eq-eqb, ne-eqb}
 use lib.Dec.{eqb}
-use lib.ListN.{length, take, drop, replicate}
+use lib.ListN.{length, getD, take, drop, replicate, length-take, length-drop, drop-of-length-le}
+use lib.Seq.{getD-drop, getD-append-add, take-all}
 use Rattle.round.specs.declared.records.Part.{Part}
 use Rattle.round.specs.declared.records.Part.the-variants.{Lawful, Refused as PartRefused}
 use Rattle.round.specs.declared.form.Form.{Form}
@@ -27,6 +28,26 @@ use Rattle.round.proofs.Found.{part-lawful}
 -- a refusal has no round
 not-read : {A : Type 0} {r : Reading} {n o : ℕ} (k : CodeHead) → r ≡ Refused n o → r ≡ Read k → A
 not-read {A} {r} {n} {o} k e d = let z : _≡_ {A = ℕ} 0 1 = cc in absurd (omega arith)
+
+-- a table from place m on, as long as it is, and the table with other places there
+abbrev behind : ℕ → List ℕ → List ℕ
+behind m table = take (length table - m) (drop m table)
+
+abbrev putBehind : ℕ → List ℕ → List ℕ → List ℕ
+putBehind m table s = take m table ++ (s ++ drop (length table - m) (drop m table))
+
+behind-at : (m : ℕ) (table : List ℕ) (i : ℕ) → m ≤ i → getD (behind m table) (i - m) 0 ≡ getD table i 0
+behind-at m table i l =
+    let e : m + (i - m) ≡ i = omega arith in
+    ap (λ (s : List ℕ). getD s (i - m) 0) (take-all (length table - m) (drop m table) (omega (arith, length-drop m table)))
+    ∙ (getD-drop m table (i - m) 0 ∙ ap (λ (n : ℕ). getD table n 0) e)
+
+put-at : (m : ℕ) (table s : List ℕ) (n : ℕ) → m ≤ length table → getD (putBehind m table s) (m + n) 0 ≡ getD s n 0
+put-at m table s n l =
+    let front : length (take m table) ≡ m = omega (arith, length-take m table) in
+    ap (λ (i : ℕ). getD (putBehind m table s) (i + n) 0) (sym front)
+    ∙ (getD-append-add (take m table) _ n 0
+    ∙ ap (λ (t : List ℕ). getD t n 0) (ap (λ (t : List ℕ). s ++ t) (drop-of-length-le (drop m table) {i = length table - m} (omega (arith, length-drop m table))) ∙ append-none s))
 
 -- a lawful part ends within the file
 pub part-inside : {file : List ℕ} {h : Head} {kind count from end : ℕ} {r : Part} → RunPart file h kind count from r → r ≡ Lawful end → end ≤ length file
@@ -54,6 +75,7 @@ module _ (file : List ℕ) (k : CodeHead) (from : ℕ) where
     head = λ j q. not-read j e q;
     candidate-starts = λ j q. not-read j e q;
     merit-starts = λ j q. not-read j e q;
+    institute-starts = λ j q. not-read j e q;
     candidates-kept = λ j i q. not-read j e q;
     merits-kept = λ j i q. not-read j e q;
   }
@@ -61,7 +83,7 @@ module _ (file : List ℕ) (k : CodeHead) (from : ℕ) where
   up : {r : Reading} {got : Part} {n o : ℕ} → r ≡ refusalOf got → got ≡ PartRefused n o → r ≡ Refused n o
   up e d = e ∙ ap refusalOf d
 
-  module _ {r₁ : Part} {m₀ m₁ : List ℕ} (R₁ : RunRead file (asHead k) 2 (k .institutes) from m₀ r₁ m₁) where
+  module _ {r₁ : Part} (m₀ : List ℕ) {s : List ℕ} (R₁ : RunRead file (asHead k) 2 (k .institutes) from (behind (k .institutes) m₀) r₁ s) where
     pub institutes-refused : {r : Reading} {n o : ℕ} (c₀ c m : List ℕ) → r ≡ refusalOf r₁ → r₁ ≡ PartRefused n o → RestRead file (asHead k) from r c₀ c m₀ m
     unfolding rows lists
     institutes-refused c₀ c m e d = rest-refused c₀ c m₀ m (up e d) (handed-part rows _ d (R₁ .part .verdict-of rows))
@@ -74,7 +96,7 @@ module _ (file : List ℕ) (k : CodeHead) (from : ℕ) where
       pub rows-refused : {r : Reading} {n o : ℕ} (m : List ℕ) → r ≡ refusalOf r₂ → r₂ ≡ PartRefused n o → RestRead file (asHead k) from r c₀ c m₀ m
       rows-refused m e d = rest-refused c₀ c m₀ m (up e d) (handed-part lists _ d rows-verdict)
 
-      module _ {e₂ : ℕ} (l₂ : r₂ ≡ Lawful e₂) {r₃ : Part} {m : List ℕ} (R₃ : RunRead file (asHead k) 4 (k .institutes) e₂ m₁ r₃ m) where
+      module _ {e₂ : ℕ} (l₂ : r₂ ≡ Lawful e₂) {r₃ : Part} {m : List ℕ} (R₃ : RunRead file (asHead k) 4 (k .institutes) e₂ (putBehind (k .institutes) m₀ s) r₃ m) where
         lists-verdict : onward r₃ (verdictFrom file (asHead k) []) ≡ verdictFrom file (asHead k) (dueAfter (asHead k)) from
         unfolding lists
         lists-verdict =
@@ -93,7 +115,7 @@ module _ (file : List ℕ) (k : CodeHead) (from : ℕ) where
           pub more-refused : (e₃ ≡ length file → ⊥) → RestRead file (asHead k) from (Refused 13 e₃) c₀ c m₀ m
           more-refused d = rest-refused c₀ c m₀ m refl (rw (ne-eqb e₃ (length file) d) at end-verdict)
 
-          pub rest-read : InRange (asHead k) → 512 ≤ length c₀ → institutesMost (k .form) ≤ length m₀ → length c ≡ length c₀ → length m ≡ length m₀ → e₃ ≡ length file
+          pub rest-read : InRange (asHead k) → 512 ≤ length c₀ → 2 * institutesMost (k .form) ≤ length m₀ → length c ≡ length c₀ → length m ≡ length m₀ → e₃ ≡ length file
               → RestRead file (asHead k) from (Read k) c₀ c m₀ m
           rest-read y many more kept kept′ d = record {
             answer = rw (eq-eqb e₃ (length file) d) at end-verdict;
@@ -110,8 +132,20 @@ module _ (file : List ℕ) (k : CodeHead) (from : ℕ) where
                   R₃ .starts-at (1 + k .institutes + k .candidates) e₃ i (R₂ .part .ends (1 + k .institutes) e₂ (R₁ .part .ends 1 e₁ s l₁) l₂) l₃ l
                   ∙ ap (startOf file) (assoc₃ (k .institutes) (k .candidates) i);
             };
+            institute-starts = λ j q d. record {
+              room = omega (arith, y .institutes-most, length-drop (k .institutes) m);
+              starts-at = λ i l.
+                  getD-drop (k .institutes) m i 0
+                  ∙ (R₃ .starts-kept (k .institutes + i) (omega arith)
+                  ∙ (put-at (k .institutes) m₀ s i (omega (arith, y .institutes-most)) ∙ R₁ .starts-at 1 e₁ i d l₁ l));
+            };
             candidates-kept = λ j i q l. R₂ .starts-kept i l;
-            merits-kept = λ j i q l. R₃ .starts-kept i l ∙ R₁ .starts-kept i l;
+            merits-kept = λ j i q l.
+                let e : k .institutes + (i - k .institutes) ≡ i = omega arith in
+                R₃ .starts-kept i (omega arith)
+                ∙ (ap (λ (n : ℕ). getD (putBehind (k .institutes) m₀ s) n 0) (sym e)
+                ∙ (put-at (k .institutes) m₀ s (i - k .institutes) (omega (arith, y .institutes-most))
+                ∙ (R₁ .starts-kept (i - k .institutes) (omega arith) ∙ behind-at (k .institutes) m₀ i (omega arith))));
           }
             where
               assoc : (a b : ℕ) → 1 + a + b ≡ 1 + (a + b)
@@ -147,6 +181,7 @@ module _ (file : List ℕ) {r₀ : Part} (h₀ : Head) {form : Form} (f : form �
         head = λ j q. not-read j up q;
         candidate-starts = λ j q. not-read j up q;
         merit-starts = λ j q. not-read j up q;
+        institute-starts = λ j q. not-read j up q;
         candidates-kept = λ j i q. not-read j up q;
         merits-kept = λ j i q. not-read j up q;
       }
@@ -185,7 +220,7 @@ module _ (file : List ℕ) {r₀ : Part} (h₀ : Head) {form : Form} (f : form �
       pub head-range : InRange (asHead k)
       head-range = rw same-head (answers.head-yes (formOf file) (bodyAt file 0) (lead .body-yes))
 
-      pub head-places : {n : ℕ} → institutesMost (formOf file) ≤ n → institutesMost (k .form) ≤ n
+      pub head-places : {n : ℕ} → 2 * institutesMost (formOf file) ≤ n → 2 * institutesMost (k .form) ≤ n
       head-places l = rw (ap (λ (h : Head). h .form) same-head) l
 
       pub round-read : {r : Reading} {c₀ c m₀ m : List ℕ} → RestRead file (asHead k) end r c₀ c m₀ m → RoundRead file r c₀ c m₀ m
@@ -197,6 +232,7 @@ module _ (file : List ℕ) {r₀ : Part} (h₀ : Head) {form : Form} (f : form �
             head = R .head;
             candidate-starts = λ j q. R .candidate-starts j q (sym (head-zero .1));
             merit-starts = λ j q. R .merit-starts j q (sym (head-zero .1));
+            institute-starts = λ j q. R .institute-starts j q (sym (head-zero .1));
             candidates-kept = R .candidates-kept;
             merits-kept = R .merits-kept;
           }

@@ -1,20 +1,24 @@
 -- A table of step rules that is written row by row: what a row holds, what the rows before it keep, and the rules of the whole.
 use Prim.Native.Nat.{ℕ, zero, suc, _+_, _*_, _-_, _≤_, _<_}
 use mathlib.Core.Path.{_≡_, refl, sym, ap, _∙_}
-use mathlib.Core.Bool.{Bool, true, false, cond, _&&_}
-use mathlib.Core.List.{List}
+use mathlib.Core.Bool.{Bool, true, false, cond}
+use mathlib.Core.List.{List, [], _∷_, _++_, append-nil}
 use native.Mathlib.Omega.{arith}
 use native.Mathlib.Nat.{add-zero, mul-le-mul, mul-le-mul-right, suc-mul}
 use lib.Dec.{eqb, ltb}
 use lib.ListN.{length, getD, set, replicate, length-set}
 use lib.Seq.{getD-set-same, getD-set-other}
 use borrow.Author.Tests.{eqb-true, eqb-false, ne-eqb, ltb-true, ltb-false}
+use Rattle.round.proofs.Words.{from-same}
 use Rattle.round.specs.Lists.{tabulate, tabulateFrom}
 use Rattle.round.specs.Category.{categoryOf}
 use Rattle.round.specs.Round.{StepRule}
-use Rattle.round.specs.Questions.{positionsIn, reservedIn}
+use Rattle.round.specs.Records.{Head}
+use Rattle.round.specs.Steps.{stepCount, positionsIn, reservedIn, stepCode, receiverIn}
 use Rattle.round.specs.Reading.{stepIn, dereserved, stepsIn}
-use Rattle.round.specs.Rules.{numberIn, ruleIn, RuleTable, rowOf, RowWritten, receiverOf, RulesRead}
+use Rattle.round.specs.Rules.{numberIn, ruleIn, RuleTable, rowOf, RowWritten, RulesRead}
+use Rattle.round.specs.Read.{LawfulSteps}
+use Rattle.round.proofs.Steps.{five-steps}
 
 -- where row k starts
 pub row-start : (types k m : ℕ) → types ≤ 8 → k ≤ m → k * (3 + types) ≤ m * 11
@@ -82,20 +86,19 @@ row-done types k n F before after all small r = record { here = λ s l. r .here 
 pub zero-row : (types k : ℕ) (before after : List ℕ) (n : ℕ) → 3 + types ≤ n → RowFrom (k * (3 + types)) n (λ s. 0) before after → RowWritten types k (λ s. 0) before after
 zero-row types k before after n all r = row-done types k n (λ s. 0) before after all (omega arith) r
 
-type-number : (types : ℕ) (body : List ℕ) (code receiver t : ℕ) → rowOf types body code receiver (3 + t) ≡ reservedIn types body code t
-type-number types body code receiver t = let e : 3 + t ≡ suc (suc (suc t)) = omega arith in ap (rowOf types body code receiver) e
+type-number : (h : Head) (body : List ℕ) (k t : ℕ) → rowOf h body k (3 + t) ≡ reservedIn h body k t
+type-number h body k t = let e : 3 + t ≡ suc (suc (suc t)) = omega arith in ap (rowOf h body k) e
 
--- the row of a code: its first three numbers are written, then those of the types
-pub rule-row : (types : ℕ) (body : List ℕ) (code receiver own t : ℕ) (before after : List ℕ) → types ≤ t
-    → code * (3 + types) + (3 + types) ≤ length before → own ≡ positionsIn types body code → own ≤ 65535
-    → RowFrom (code * (3 + types) + 3) t (reservedIn types body code) (set (set (set before (code * (3 + types)) code) (code * (3 + types) + 1) receiver) (code * (3 + types) + 2) own) after
-    → RowWritten types code (rowOf types body code receiver) before after
-rule-row types body code receiver own t before after all long e small r =
-    row-done types code (3 + t) row before after (omega arith) (omega arith)
-    (row-join (code * (3 + types)) 3 t row (reservedIn types body code) _ _ _ (λ s. sym (type-number types body code receiver s)) (row-head (code * (3 + types)) code receiver own row before (omega arith) refl refl e) r)
-  where
-    row : ℕ → ℕ
-    row = rowOf types body code receiver
+-- the row of a step: its first three numbers are written, then those of the types
+pub rule-row : (h : Head) (body : List ℕ) (k code receiver own t : ℕ) (before after : List ℕ) → h .types ≤ t
+    → k * (3 + h .types) + (3 + h .types) ≤ length before
+    → code ≡ stepCode h body k → receiver ≡ receiverIn h body k → own ≡ positionsIn h body k → own ≤ 65535
+    → RowFrom (k * (3 + h .types) + 3) t (reservedIn h body k) (set (set (set before (k * (3 + h .types)) code) (k * (3 + h .types) + 1) receiver) (k * (3 + h .types) + 2) own) after
+    → RowWritten (h .types) k (rowOf h body k) before after
+rule-row h body k code receiver own t before after all long coded handed-on e small r =
+    row-done (h .types) k (3 + t) (rowOf h body k) before after (omega arith) (omega arith)
+    (row-join (k * (3 + h .types)) 3 t (rowOf h body k) (reservedIn h body k) _ _ _ (λ s. sym (type-number h body k s))
+    (row-head (k * (3 + h .types)) code receiver own (rowOf h body k) before (omega arith) coded handed-on e) r)
 
 -- the rows below k hold R, with own positions of two bytes
 pub record RowsTo (types k : ℕ) (R : ℕ → ℕ → ℕ) (table : List ℕ) : Type 0 where
@@ -117,13 +120,13 @@ rows-more types k R row before after rows w same = record {
     below : (i : ℕ) → suc i ≤ k → i * (3 + types) + (3 + types) ≤ k * (3 + types)
     below i l = omega (arith, suc-mul i (3 + types), mul-le-mul-right (3 + types) l)
 
+-- the rows so far are all, by their number
+pub rows-all : {types k n : ℕ} {R : ℕ → ℕ → ℕ} {table : List ℕ} → RowsTo types k R table → k ≡ n → RowsTo types n R table
+rows-all rows e = rw e at rows
+
 -- the rule of a row of numbers
 abbrev ruleOf : ℕ → (ℕ → ℕ) → StepRule
 ruleOf types row = record { category = categoryOf (row 0); own = row 2; reserved = tabulate types (λ t. row (3 + t)); receiver = row 1 }
-
-from-same : {A : Type 0} (i n : ℕ) (f g : ℕ → A) → ((p : ℕ) → p < i + n → f p ≡ g p) → tabulateFrom i n f ≡ tabulateFrom i n g
-from-same i zero f g h = refl
-from-same i (suc n) f g h = rw (h i (omega arith), from-same (suc i) n f g (λ p l. h p (omega arith)))
 
 rule-at : (types k : ℕ) (R : ℕ → ℕ → ℕ) (table : List ℕ) → RowsTo types k R table → (i : ℕ) → i < k → ruleIn types table i ≡ ruleOf types (R i)
 unfolding ruleIn
@@ -139,78 +142,75 @@ zeros : (i n : ℕ) → tabulateFrom i n (λ t. zero) ≡ replicate n zero
 zeros i zero = refl
 zeros i (suc n) = rw (zeros (suc i) n)
 
--- the rows of the policies
-abbrev pub policyRows : ℕ → ℕ → List ℕ → ℕ → ℕ → ℕ
-policyRows types policy body i = cond (eqb i 5) (λ s. 0) (rowOf types body i (receiverOf policy i))
+-- a table with room for 12 rows
+rule-table : (types k : ℕ) (R : ℕ → ℕ → ℕ) (table : List ℕ) → types ≤ 8 → k ≤ 12 → 132 ≤ length table
+    → ((i : ℕ) → i < k → R i 0 < 5) → ((i : ℕ) → i < k → R i 1 ≤ 12) → RowsTo types k R table → RuleTable types k table
+rule-table types k R table few small long coded handed-on rows = record {
+  types-most = few;
+  steps-most = small;
+  long = omega (arith, row-start types k 12 few small);
+  coded = λ i l. rw (rows .hold i l 0 (omega arith)) (coded i l);
+  handed-on = λ i l. rw (rows .hold i l 1 (omega arith)) (handed-on i l);
+  own-most = λ i l. rw (rows .hold i l 2 (omega arith)) (rows .own-most i l);
+}
 
-module _ (types policy : ℕ) (body : List ℕ) where
-  pub policy-row : (code receiver : ℕ) → code < 5 → receiver ≡ receiverOf policy code → (s : ℕ) → rowOf types body code receiver s ≡ policyRows types policy body code s
-  policy-row code receiver l e s = rw (ne-eqb code 5 (λ z. omega arith), e)
+-- under policy 1 the body has five steps
+pub one-steps : (h : Head) (body : List ℕ) → h .policy ≡ 1 → stepCount h body ≡ 5
+one-steps h body e = five-steps h body (rw e)
 
-  code-low : (i : ℕ) → i < 6 → policyRows types policy body i 0 < 5
-  code-low i l = equal-or i 5 (λ z. rw z (omega arith)) (λ n. rw (ne-eqb i 5 n) (omega arith))
+-- the rows of policy 1: those of the body, and that of step 6
+abbrev sixRows : Head → List ℕ → ℕ → ℕ → ℕ
+sixRows h body i = cond (eqb i 5) (λ s. 0) (rowOf h body i)
 
-  receiver-low : (i : ℕ) → policyRows types policy body i 1 ≤ 12
-  receiver-low i = equal-or i 5 (λ z. rw z (omega arith)) (λ n. rw (ne-eqb i 5 n) (go (eqb policy 1 && eqb i 3)))
+module _ (h : Head) (body : List ℕ) (steps : LawfulSteps h body) (table : List ℕ) (long : 132 ≤ length table) where
+  step-rule : (k : ℕ) (R : ℕ → ℕ → ℕ) → RowsTo (h .types) k R table → (i : ℕ) → i < k → R i ≡ rowOf h body i → ruleIn (h .types) table i ≡ stepIn h body i
+  unfolding stepIn
+  step-rule k R rows i l e =
+      rule-at (h .types) k R table rows i l
+      ∙ rw (e, from-same 0 (h .types) (λ t. rowOf h body i (3 + t)) (reservedIn h body i) (λ t b. type-number h body i t))
+
+  -- the table of a body's own steps
+  pub body-rules : (n : ℕ) → n ≡ stepCount h body → eqb (h .policy) 1 ≡ false → RowsTo (h .types) n (rowOf h body) table → RulesRead h body table n
+  body-rules n e other rows = record {
+    table-of =
+        rule-table (h .types) n (rowOf h body) table (steps .long .types-most) (omega (arith, steps .long .steps-most)) long
+        (λ i l. steps .coded i (omega arith)) (λ i l. steps .handed-on i (omega arith)) rows;
+    rules-of =
+        unfold stepsIn in
+        rw (other, ← e, append-nil)
+        (from-same 0 n (ruleIn (h .types) table) (stepIn h body) (λ i l. step-rule n (rowOf h body) rows i (omega arith) refl));
+  }
+
+  last-rule : RowsTo (h .types) 6 (sixRows h body) table → ruleIn (h .types) table 5 ≡ dereserved (h .types)
+  unfolding dereserved
+  last-rule rows = rule-at (h .types) 6 (sixRows h body) table rows 5 (omega arith) ∙ rw (zeros 0 (h .types))
+
+  -- the table of policy 1: behind the rows of the body that of step 6
+  pub six-rules : (before : List ℕ) → eqb (h .policy) 1 ≡ true → RowsTo (h .types) 5 (rowOf h body) before → RowWritten (h .types) 5 (λ s. 0) before table → RulesRead h body table 6
+  six-rules before one rows w = record {
+    table-of =
+        rule-table (h .types) 6 (sixRows h body) table (steps .long .types-most) (omega arith) long
+        (λ i l. equal-or i 5 (λ z. rw z (omega arith)) (λ n. rw (ne-eqb i 5 n) (steps .coded i (below i l n))))
+        (λ i l. equal-or i 5 (λ z. rw z (omega arith)) (λ n. rw (ne-eqb i 5 n) (steps .handed-on i (below i l n)))) all;
+    rules-of =
+        unfold stepsIn in
+        rw (one, five)
+        (ap (λ (x : List StepRule). x ++ (ruleIn (h .types) table 5 ∷ []))
+        (from-same 0 5 (ruleIn (h .types) table) (stepIn h body) (λ i l. step-rule 6 (sixRows h body) all i (omega arith) (same i (omega arith))))
+        ∙ ap (λ (x : StepRule). tabulate 5 (stepIn h body) ++ (x ∷ [])) (last-rule all));
+  }
     where
-      go : (b : Bool) → cond b 6 0 ≤ 12
-      go true = omega arith
-      go false = omega arith
+      five : stepCount h body ≡ 5
+      five = one-steps h body (eqb-true (h .policy) 1 one)
 
-  module _ (table : List ℕ) (few : types ≤ 8) (long : 66 ≤ length table) where
-    rule-table : (k : ℕ) → k ≤ 6 → RowsTo types k (policyRows types policy body) table → RuleTable types k table
-    rule-table k small rows = record {
-      types-most = few;
-      steps-most = omega arith;
-      long = omega (arith, row-start types k 6 few small);
-      coded = λ i l. rw (rows .hold i l 0 (omega arith)) (code-low i (omega arith));
-      handed-on = λ i l. rw (rows .hold i l 1 (omega arith)) (receiver-low i);
-      own-most = λ i l. rw (rows .hold i l 2 (omega arith)) (rows .own-most i l);
-    }
+      below : (i : ℕ) → i < 6 → (i ≡ 5 → ⊥) → i < stepCount h body
+      below i l n = omega (arith, five, n)
 
-    module _ (k : ℕ) (rows : RowsTo types k (policyRows types policy body) table) where
-      step-rule : (i receiver : ℕ) → i < k → i < 5 → receiverOf policy i ≡ receiver → ruleIn types table i ≡ stepIn types body i receiver
-      unfolding stepIn
-      step-rule i receiver l m e =
-          rule-at types k _ table rows i l
-          ∙ rw (
-            ne-eqb i 5 (λ z. omega arith),
-            from-same 0 types (λ t. rowOf types body i (receiverOf policy i) (3 + t)) (reservedIn types body i) (λ t b. type-number types body i (receiverOf policy i) t),
-            e,
-          )
+      same : (i : ℕ) → i < 5 → sixRows h body i ≡ rowOf h body i
+      same i l = rw (ne-eqb i 5 (λ z. omega arith))
 
-      last-rule : 5 < k → ruleIn types table 5 ≡ dereserved types
-      unfolding dereserved
-      last-rule l = rule-at types k _ table rows 5 l ∙ rw (zeros 0 types)
-
-    -- the table of policy 0, and that of policy 1 with the row of step 6
-    pub five-rules : eqb policy 1 ≡ false → RowsTo types 5 (policyRows types policy body) table → RulesRead types policy body table 5
-    five-rules e rows = record {
-      table-of = rule-table 5 (omega arith) rows;
-      rules-of =
-          unfold stepsIn in
-          rw (
-            step-rule 5 rows 0 0 (omega arith) (omega arith) (rw e),
-            step-rule 5 rows 1 0 (omega arith) (omega arith) (rw e),
-            step-rule 5 rows 2 0 (omega arith) (omega arith) (rw e),
-            step-rule 5 rows 3 0 (omega arith) (omega arith) (rw e),
-            step-rule 5 rows 4 0 (omega arith) (omega arith) (rw e),
-            e,
-          );
-    }
-
-    pub six-rules : eqb policy 1 ≡ true → RowsTo types 6 (policyRows types policy body) table → RulesRead types policy body table 6
-    six-rules e rows = record {
-      table-of = rule-table 6 (omega arith) rows;
-      rules-of =
-          unfold stepsIn in
-          rw (
-            step-rule 6 rows 0 0 (omega arith) (omega arith) (rw e),
-            step-rule 6 rows 1 0 (omega arith) (omega arith) (rw e),
-            step-rule 6 rows 2 0 (omega arith) (omega arith) (rw e),
-            step-rule 6 rows 3 6 (omega arith) (omega arith) (rw e),
-            step-rule 6 rows 4 0 (omega arith) (omega arith) (rw e),
-            last-rule 6 rows (omega arith),
-            e,
-          );
-    }
+      all : RowsTo (h .types) 6 (sixRows h body) table
+      all = rows-more (h .types) 5 (sixRows h body) (λ s. 0) before table first w (λ s. refl)
+        where
+          first : RowsTo (h .types) 5 (sixRows h body) before
+          first = record { hold = λ i l s b. rw (same i l) (rows .hold i l s b); own-most = λ i l. rw (same i l) (rows .own-most i l) }

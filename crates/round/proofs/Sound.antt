@@ -1,27 +1,31 @@
 -- The round of a file that is not refused is sound.
 use Prim.Native.Nat.{ℕ, zero, suc, _+_, _*_, _<_, _≤_}
-use mathlib.Core.Path.{_≡_, refl, sym, ap, _∙_}
+use mathlib.Core.Path.{_≡_, refl, sym, ap, _∙_, subst⁻¹}
 use mathlib.Core.Bool.{Bool, true, false, cond}
 use mathlib.Core.Logic.{inl, inr, ⊎-elim}
-use mathlib.Core.List.{List, [], _∷_}
+use mathlib.Core.List.{List, [], _∷_, _++_}
 use native.Mathlib.Omega.{arith}
+use native.Mathlib.Decide.{decLt}
 use lib.Dec.{eqb}
-use lib.ListN.{length, getD, replicate, length-replicate}
-use borrow.Author.Tests.{ne-eqb}
+use lib.ListN.{length, getD, replicate, length-append, length-replicate, List·getD-append}
+use lib.Seq.{getD-append-add}
+use borrow.Author.Tests.{eqb-true, ne-eqb}
 use Rattle.round.specs.declared.entry.Category.the-variants.{Open}
 use Rattle.round.specs.declared.entry.Entry.{Entry}
 use Rattle.round.specs.declared.form.Form.{Form}
 use Rattle.round.specs.Category.{codeOf, categoryOf}
 use Rattle.round.specs.Form.{entryWidth}
-use Rattle.round.specs.Lists.{sum, sumOf}
-use Rattle.round.specs.Records.{Head, formOf, headOf, lengthAt, bodyAt, bodyOf, startOf, instituteRecord, candidateRecord, meritRecord}
-use Rattle.round.specs.Questions.{reservedIn, entryCount, instituteIn, codeIn, meritCount, meritIn}
+use Rattle.round.specs.Lists.{tabulate, bit, sum, sumOf}
+use Rattle.round.specs.Records.{Head, formOf, headOf, lengthAt, bodyAt, bodyOf, startOf, ownSteps, instituteRecord, candidateRecord, meritRecord}
+use Rattle.round.specs.Steps.{stepCount, positionsIn, reservedIn, stepCode}
+use Rattle.round.specs.Questions.{entryCount, instituteIn, codeIn, meritCount, meritIn}
 use Rattle.round.specs.Refusal.{passes, verdict}
 use Rattle.round.specs.Round.{StepRule}
 use Rattle.round.specs.Reading.{stepIn, dereserved, stepsIn, entryIn, candidateIn, instituteFrom, roundOf}
-use Rattle.round.specs.Places.{candidateAt, instituteAt, entryAt, stepAt, meritAt, noEntry, noCandidate, noInstitute, noStep}
-use Rattle.round.specs.Read.{InRange}
+use Rattle.round.specs.Places.{candidateAt, instituteAt, entryAt, stepNumbers, meritAt, noEntry, noCandidate, noInstitute, noStep}
+use Rattle.round.specs.Read.{InRange, InstituteBody}
 use Rattle.round.specs.Sound.{SoundCandidate, SoundInstitute, Sound}
+use Rattle.round.proofs.Steps.{five-steps, code-no}
 use Rattle.round.proofs.Words.{length-tabulate, tabulate-at, sum-tabulate}
 use Rattle.round.proofs.Forms.{institutes-few, entries-few}
 use Rattle.round.proofs.Passed.{Passed, passed}
@@ -40,21 +44,76 @@ code-category (suc (suc (suc (suc (suc n))))) l = absurd (omega arith)
 no-code : (code : ℕ) → 5 ≤ code → Open ≡ categoryOf code
 no-code code l = rw (ne-eqb code 1 (λ e. omega arith), ne-eqb code 2 (λ e. omega arith), ne-eqb code 3 (λ e. omega arith), ne-eqb code 4 (λ e. omega arith))
 
-beyond : (b : Bool) (types s : ℕ) → getD (cond b (dereserved types ∷ []) []) s noStep .category ≡ Open
-unfolding dereserved
-beyond true types zero = refl
-beyond true types (suc s) = refl
-beyond false types s = refl
+bit-few : (b : Bool) → bit b ≤ 1
+bit-few true = omega arith
+bit-few false = omega arith
 
--- the steps have the categories of codes 0 to 4, and then the open one
-steps-category : (types policy : ℕ) (body : List ℕ) (s : ℕ) → getD (stepsIn types policy body) s noStep .category ≡ categoryOf s
-unfolding stepsIn stepIn
-steps-category types policy body zero = refl
-steps-category types policy body (suc zero) = refl
-steps-category types policy body (suc (suc zero)) = refl
-steps-category types policy body (suc (suc (suc zero))) = refl
-steps-category types policy body (suc (suc (suc (suc zero)))) = refl
-steps-category types policy body (suc (suc (suc (suc (suc s))))) = beyond (eqb policy 1) types s ∙ no-code (suc (suc (suc (suc (suc s))))) (omega arith)
+-- the steps in a body, and behind them a sixth or none
+module _ (h : Head) (body : List ℕ) where
+  stepsBy : Bool → List StepRule
+  stepsBy b = tabulate (stepCount h body) (stepIn h body) ++ cond b (dereserved (h .types) ∷ []) []
+
+  steps-by : stepsIn h body ≡ stepsBy (eqb (h .policy) 1)
+  unfolding stepsIn stepsBy
+  steps-by = refl
+
+  in-body : length (tabulate (stepCount h body) (stepIn h body)) ≡ stepCount h body
+  in-body = length-tabulate 0 (stepCount h body) (stepIn h body)
+
+  steps-length : (b : Bool) → length (stepsBy b) ≡ stepCount h body + bit b
+  unfolding stepsBy
+  steps-length true = omega (arith, length-append (tabulate (stepCount h body) (stepIn h body)) (dereserved (h .types) ∷ []), in-body)
+  steps-length false = omega (arith, length-append (tabulate (stepCount h body) (stepIn h body)) [], in-body)
+
+  step-at : (b : Bool) (s : ℕ) → s < stepCount h body → getD (stepsBy b) s noStep ≡ stepIn h body s
+  unfolding stepsBy
+  step-at b s l =
+      List·getD-append (tabulate (stepCount h body) (stepIn h body)) _ noStep s (omega (arith, in-body))
+      ∙ tabulate-at (stepCount h body) (stepIn h body) noStep s l
+
+  step-behind : (b : Bool) (s : ℕ) → s ≡ stepCount h body → getD (stepsBy b) s noStep ≡ cond b (dereserved (h .types)) noStep
+  unfolding stepsBy
+  step-behind b s e =
+      let at : s ≡ length (tabulate (stepCount h body) (stepIn h body)) + 0 = omega (arith, in-body) in
+      ap (λ (s : ℕ). getD (stepsBy b) s noStep) at ∙ getD-append-add (tabulate (stepCount h body) (stepIn h body)) (cond b (dereserved (h .types) ∷ []) []) 0 noStep ∙ last b
+    where
+      last : (b : Bool) → getD (cond b (dereserved (h .types) ∷ []) []) 0 noStep ≡ cond b (dereserved (h .types)) noStep
+      last true = refl
+      last false = refl
+
+  steps-number : length (stepsIn h body) ≡ stepCount h body + bit (eqb (h .policy) 1)
+  steps-number = ap length steps-by ∙ steps-length (eqb (h .policy) 1)
+
+  -- where they are not listed, five, and a sixth under policy 1
+  six-steps : ownSteps h ≡ false → length (stepsIn h body) ≤ 6
+  six-steps e = omega (arith, steps-number, five-steps h body e, bit-few (eqb (h .policy) 1))
+
+  -- of an institute that lists its own steps the body has them all
+  pub listed-length : ownSteps h ≡ true → length (stepsIn h body) ≡ stepCount h body
+  listed-length own =
+      let none : bit (eqb (h .policy) 1) ≡ 0 = ap (λ (p : ℕ). bit (eqb p 1)) (eqb-true (h .policy) 2 own) in
+      omega (arith, steps-number, none)
+
+  -- a step in the body has the category of its code
+  pub listed-category : (s : ℕ) → s < stepCount h body → getD (stepsIn h body) s noStep .category ≡ categoryOf (stepCode h body s)
+  unfolding stepIn
+  listed-category s l = ap (λ (rule : StepRule). rule .category) (ap (λ (l : List StepRule). getD l s noStep) steps-by ∙ step-at (eqb (h .policy) 1) s l)
+
+  -- where the body has the steps of codes 0 to 4, a sixth has the open category, and so has what stands beyond the fifth
+  behind-open : (b : Bool) → cond b (dereserved (h .types)) noStep .category ≡ Open
+  unfolding dereserved
+  behind-open true = refl
+  behind-open false = refl
+
+  pub numbered-category : ownSteps h ≡ false → (s : ℕ) → s < 6 → getD (stepsIn h body) s noStep .category ≡ categoryOf s
+  numbered-category own s l = elim (decLt s 5) [
+    | yes m ↦ listed-category s (omega (arith, five-steps h body own)) ∙ ap categoryOf (sym (code-no h {r = false} (sym own) body s refl))
+    | no m ↦
+        ap (λ (l : List StepRule). getD l s noStep .category) steps-by
+        ∙ ap (λ (rule : StepRule). rule .category) (step-behind (eqb (h .policy) 1) s (omega (arith, five-steps h body own)))
+        ∙ behind-open (eqb (h .policy) 1)
+        ∙ no-code s (omega arith)
+  ]
 
 -- a candidate's body
 module _ (form : Form) (institutes types : ℕ) (body : List ℕ) (y : Answers.CandidateYes form institutes types body) (short : length body ≤ 2 + 16 * entryWidth form) where
@@ -100,7 +159,7 @@ module _ (form : Form) (institutes types : ℕ) (body : List ℕ) (y : Answers.C
   }
 
 -- an institute's body and that of its merit list
-module _ (h : Head) (body list : List ℕ) (y : Answers.InstituteYes (h .types) body) (z : Answers.MeritYes (h .candidates) list) where
+module _ (h : Head) (body list : List ℕ) (long : InstituteBody h body) (y : Answers.InstituteYes h body) (z : Answers.MeritYes (h .candidates) list) where
   merit-length : length (instituteFrom h body list .merit) ≡ meritCount list
   unfolding instituteFrom
   merit-length = length-tabulate 0 (meritCount list) (meritIn list)
@@ -115,67 +174,69 @@ module _ (h : Head) (body list : List ℕ) (y : Answers.InstituteYes (h .types) 
       let no-more : ¬ (q < p) = λ m. z .merit-differs q p m pl (sym e) in
       omega arith
 
-  -- the step of a code
-  code-types : (code receiver : ℕ) → length (stepIn (h .types) body code receiver .reserved) ≡ h .types
-  unfolding stepIn
-  code-types code receiver = length-tabulate 0 (h .types) (reservedIn (h .types) body code)
-
-  code-within : (code receiver : ℕ) → code < 5 → sum (stepIn (h .types) body code receiver .reserved) ≤ stepIn (h .types) body code receiver .own
-  unfolding stepIn
-  code-within code receiver l = rw (sum-tabulate (h .types) (reservedIn (h .types) body code)) (y .reserved-within code l)
-
   sum-none : (n : ℕ) → sum (replicate n 0) ≡ 0
   sum-none zero = refl
   sum-none (suc n) = omega (arith, sum-none n)
 
-  -- the steps by whether step 4 hands its vacancies to a sixth
-  rulesBy : Bool → List StepRule
-  rulesBy b =
-      stepIn (h .types) body 0 0
-      ∷ stepIn (h .types) body 1 0
-      ∷ stepIn (h .types) body 2 0
-      ∷ stepIn (h .types) body 3 (cond b 6 0)
-      ∷ stepIn (h .types) body 4 0
-      ∷ cond b (dereserved (h .types) ∷ []) []
-
   Good : StepRule → Type 0
   Good rule = (length (rule .reserved) ≡ h .types) × (sum (rule .reserved) ≤ rule .own)
 
-  good-code : (code receiver : ℕ) → code < 5 → Good (stepIn (h .types) body code receiver)
-  unfolding Good
-  good-code code receiver l = (code-types code receiver, code-within code receiver l)
+  good-listed : (s : ℕ) → s < stepCount h body → Good (stepIn h body s)
+  unfolding Good stepIn
+  good-listed s l = (length-tabulate 0 (h .types) (reservedIn h body s), rw (sum-tabulate (h .types) (reservedIn h body s)) (y .reserved-within s l))
 
-  good-step : (b : Bool) (s : ℕ) → s < length (rulesBy b) → Good (getD (rulesBy b) s noStep)
-  unfolding rulesBy Good dereserved
-  good-step b zero l = good-code 0 0 (omega arith)
-  good-step b (suc zero) l = good-code 1 0 (omega arith)
-  good-step b (suc (suc zero)) l = good-code 2 0 (omega arith)
-  good-step b (suc (suc (suc zero))) l = good-code 3 (cond b 6 0) (omega arith)
-  good-step b (suc (suc (suc (suc zero)))) l = good-code 4 0 (omega arith)
-  good-step true (suc (suc (suc (suc (suc zero))))) l = (length-replicate (h .types) 0, omega (arith, sum-none (h .types)))
-  good-step true (suc (suc (suc (suc (suc (suc s)))))) l = absurd (omega arith)
-  good-step false (suc (suc (suc (suc (suc zero))))) l = absurd (omega arith)
-  good-step false (suc (suc (suc (suc (suc (suc s)))))) l = absurd (omega arith)
+  good-sixth : Good (dereserved (h .types))
+  unfolding Good dereserved
+  good-sixth = (length-replicate (h .types) 0, omega (arith, sum-none (h .types)))
 
-  few-steps : (b : Bool) → (5 ≤ length (rulesBy b)) × (length (rulesBy b) ≤ 6) × (sumOf (length (rulesBy b)) (λ s. getD (rulesBy b) s noStep .own) ≤ 1024)
-  unfolding rulesBy stepIn dereserved
-  few-steps true = (omega arith, omega arith, omega (arith, y .positions-few))
-  few-steps false = (omega arith, omega arith, omega (arith, y .positions-few))
+  good-step : (b : Bool) (s : ℕ) → s < length (stepsBy h body b) → Good (getD (stepsBy h body b) s noStep)
+  good-step b s l = elim (decLt s (stepCount h body)) [
+    | yes m ↦ subst⁻¹ Good (step-at h body b s m) (good-listed s m)
+    | no m ↦ last b (omega (arith, steps-length h body b, bit-few b)) (omega (arith, steps-length h body b))
+  ]
+    where
+      last : (b : Bool) → s ≡ stepCount h body → s < stepCount h body + bit b → Good (getD (stepsBy h body b) s noStep)
+      last true e l = subst⁻¹ Good (step-behind h body true s e) good-sixth
+      last false e l = absurd (omega arith)
 
-  steps-by : instituteFrom h body list .steps ≡ rulesBy (eqb (h .policy) 1)
-  unfolding instituteFrom stepsIn rulesBy
-  steps-by = refl
+  -- the positions of the first n steps
+  first-positions : (b : Bool) (n : ℕ) → n ≤ stepCount h body → sumOf n (λ s. getD (stepsBy h body b) s noStep .own) ≡ sumOf n (positionsIn h body)
+  unfolding stepIn
+  first-positions b zero l = refl
+  first-positions b (suc n) l =
+      omega (arith, ap (λ (rule : StepRule). rule .own) (step-at h body b n (omega arith)), first-positions b n (omega arith))
+
+  all-positions : (b : Bool) → sumOf (length (stepsBy h body b)) (λ s. getD (stepsBy h body b) s noStep .own) ≡ sumOf (stepCount h body) (positionsIn h body)
+  unfolding dereserved
+  all-positions true =
+      let more : length (stepsBy h body true) ≡ suc (stepCount h body) = omega (arith, steps-length h body true) in
+      ap (λ (n : ℕ). sumOf n (λ s. getD (stepsBy h body true) s noStep .own)) more
+      ∙ let none = ap (λ (rule : StepRule). rule .own) (step-behind h body true (stepCount h body) refl) in
+      omega (arith, none, first-positions true (stepCount h body) (omega arith))
+  all-positions false =
+      let same : length (stepsBy h body false) ≡ stepCount h body = omega (arith, steps-length h body false) in
+      ap (λ (n : ℕ). sumOf n (λ s. getD (stepsBy h body false) s noStep .own)) same ∙ first-positions false (stepCount h body) (omega arith)
+
+  twelve-steps : length (stepsIn h body) ≤ 12
+  twelve-steps = go (ownSteps h) refl
+    where
+      go : (own : Bool) → ownSteps h ≡ own → length (stepsIn h body) ≤ 12
+      go true e = omega (arith, listed-length h body e, long .steps-most)
+      go false e = omega (arith, six-steps h body e)
+
+  institute-steps : instituteFrom h body list .steps ≡ stepsBy h body (eqb (h .policy) 1)
+  unfolding instituteFrom
+  institute-steps = steps-by h body
 
   sound-institute : SoundInstitute (h .candidates) (h .types) (instituteFrom h body list)
-  unfolding Good
+  unfolding Good instituteFrom
   sound-institute =
       let b : Bool = eqb (h .policy) 1 in
       record {
-        positions-few = rw steps-by (few-steps b .2);
-        steps-least = rw steps-by (few-steps b .0);
-        steps-most = rw steps-by (few-steps b .1);
-        reserved-types = λ s. rw steps-by (λ l. good-step b s l .0);
-        reserved-within = λ s. rw steps-by (λ l. good-step b s l .1);
+        positions-few = rw institute-steps (rw (all-positions b) (y .positions-few));
+        steps-most = twelve-steps;
+        reserved-types = λ s. rw institute-steps (λ l. good-step b s l .0);
+        reserved-within = λ s. rw institute-steps (λ l. good-step b s l .1);
         merit-from = λ p l. let m : p < meritCount list = omega (arith, merit-length) in rw (merit-at p m) (z .merit-from p m);
         merit-to = λ p l. let m : p < meritCount list = omega (arith, merit-length) in rw (merit-at p m) (z .merit-to p m);
         merit-differs = λ p q pl ql e.
@@ -195,9 +256,9 @@ module _ (file : List ℕ) where
   institute-at j l =
       tabulate-at (headOf file .institutes) (λ j. instituteFrom (headOf file) (bodyOf file (instituteRecord (headOf file) j)) (bodyOf file (meritRecord (headOf file) j))) noInstitute j l
 
-  pub step-category : (j s : ℕ) → j < headOf file .institutes → stepAt (instituteAt (roundOf file) j) s .category ≡ categoryOf s
-  unfolding instituteFrom
-  step-category j s l = rw (institute-at j l) (steps-category (headOf file .types) (headOf file .policy) _ s)
+  pub listed-round : roundOf file .stepsListed ≡ ownSteps (headOf file)
+  unfolding roundOf
+  listed-round = refl
 
   pub length-candidates : length (roundOf file .candidates) ≡ headOf file .candidates
   unfolding roundOf
@@ -223,7 +284,16 @@ module _ (file : List ℕ) where
     institute-sound j l =
         let lead = Answers.lead-yes file (headOf file) 2 (startOf file (instituteRecord (headOf file) j)) (p .institute-yes j l) in
         let list = Answers.lead-yes file (headOf file) 4 (startOf file (meritRecord (headOf file) j)) (p .merit-yes j l) in
-        rw (institute-at j l) (sound-institute (headOf file) _ _ (Answers.institute-yes (headOf file) _ (lead .body-yes)) (Answers.merit-yes (headOf file) _ (list .body-yes)))
+        let long = Answers.institute-body (headOf file) (bodyOf file (instituteRecord (headOf file) j)) (head-fits .types-most) (rw (lead .body-length) (lead .allowed)) in
+        rw (institute-at j l) (sound-institute (headOf file) _ _ long (Answers.institute-yes (headOf file) _ (lead .body-yes)) (Answers.merit-yes (headOf file) _ (list .body-yes)))
+
+    numbered-steps : (j : ℕ) → j < headOf file .institutes → length (instituteAt (roundOf file) j .steps) ≤ stepNumbers (roundOf file) j
+    unfolding instituteFrom
+    numbered-steps j l = go (roundOf file .stepsListed) refl
+      where
+        go : (listed : Bool) → roundOf file .stepsListed ≡ listed → length (instituteAt (roundOf file) j .steps) ≤ cond listed (length (instituteAt (roundOf file) j .steps)) 6
+        go true e = omega arith
+        go false e = rw (institute-at j l) (six-steps (headOf file) _ (sym listed-round ∙ e))
 
 -- the round of a file that is not refused is sound
 pub sound : (file : List ℕ) → verdict file ≡ passes → Sound (headOf file .types) (roundOf file)
@@ -238,4 +308,5 @@ sound file e =
       institutes-most = rw (length-institutes file) (omega (arith, y .institutes-most, institutes-few (formOf file)));
       candidate = λ i. rw (length-candidates file, length-institutes file) (λ l. candidate-sound file p i l);
       institute = λ j. rw (length-institutes file, length-candidates file) (λ l. institute-sound file p j l);
+      numbered = λ j. rw (length-institutes file) (λ l. numbered-steps file p j l);
     }

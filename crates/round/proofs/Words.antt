@@ -6,7 +6,7 @@ use mathlib.Core.Logic.{_⊎_, inl, inr, ⊎-elim}
 use mathlib.Core.List.{List, [], _∷_, _++_}
 use native.Mathlib.Omega.{arith}
 use native.Mathlib.Numerals.{add-one}
-use native.Mathlib.Nat.{add-zero, add-suc, suc-add, zero-add, mul-le-mul-left}
+use native.Mathlib.Nat.{add-zero, add-suc, suc-add, zero-add}
 use borrow.Author.Tests.{not-true, not-false, le-leb, lt-leb}
 use Rattle.round.specs.Records.{word}
 use Rattle.round.specs.Questions.{within}
@@ -68,6 +68,11 @@ getD-tabulate s (suc n) f d (suc i) l =
 pub tabulate-at : {A : Type 0} (n : ℕ) (f : ℕ → A) (d : A) (i : ℕ) → i < n → getD (tabulate n f) i d ≡ f i
 tabulate-at n f d i l = getD-tabulate 0 n f d i l ∙ ap f (zero-add i)
 
+-- the same values give the same list
+pub from-same : {A : Type 0} (i n : ℕ) (f g : ℕ → A) → ((p : ℕ) → p < i + n → f p ≡ g p) → tabulateFrom i n f ≡ tabulateFrom i n g
+from-same i zero f g h = refl
+from-same i (suc n) f g h = rw (h i (omega arith), from-same (suc i) n f g (λ p l. h p (omega arith)))
+
 pub append-none : (s : List ℕ) → s ++ [] ≡ s
 append-none [] = refl
 append-none (x ∷ s) = ap (λ (t : List ℕ). x ∷ t) (append-none s)
@@ -102,13 +107,6 @@ leb-no most {x} {y} e l = lt-leb y most (omega arith)
 
 pub leb-yes : (most : ℕ) {x y : ℕ} → x ≡ y → x ≤ most → leb y most ≡ true
 leb-yes most {x} {y} e l = le-leb y most (omega arith)
-
--- the words of a code stand before those of the fifth
-pub slot : (types code : ℕ) → code < 5 → (1 + types) * code ≤ 4 + 4 * types
-slot types code l = omega (arith, mul-le-mul-left (1 + types) h)
-  where
-    h : code ≤ 4
-    h = omega arith
 
 -- a loop that sums f 0, f 1, ..: one turn, and the end
 pub sum-step : (f : ℕ → ℕ) (i : ℕ) {s v : ℕ} → s ≡ sumOf i f → v ≡ f i → s + v ≡ sumOf (i + 1) f

@@ -10,8 +10,8 @@ use Rattle.round.specs.Questions.{meritCount, meritIn}
 use Rattle.round.specs.Refusal.{passes, verdict}
 use Rattle.round.specs.Reading.{stepsIn, candidateIn, roundOf}
 use Rattle.round.specs.Places.{candidateAt, instituteAt}
-use Rattle.round.specs.Read.{asHead, InstituteBody, CandidateBody}
-use Rattle.round.specs.Outcome.{CandidateStarts, MeritStarts}
+use Rattle.round.specs.Read.{asHead, LawfulSteps, CandidateBody}
+use Rattle.round.specs.Outcome.{CandidateStarts, MeritStarts, InstituteStarts}
 
 -- the candidate and the institute with a number, from 0, of the round that a file means
 abbrev pub candidateOf : List ℕ → ℕ → Candidate
@@ -32,10 +32,11 @@ pub record MeritKnown (file starts : List ℕ) (j : ℕ) : Type 0 where
   pub table : MeritStarts file starts
   pub below : j < headOf file .institutes
 
--- an accepted file, its head, and an institute of it
-pub record InstituteKnown (file : List ℕ) (h : CodeHead) (j : ℕ) : Type 0 where
+-- an accepted file, its head, the table of its institutes' records, and an institute of it
+pub record InstituteKnown (file : List ℕ) (h : CodeHead) (starts : List ℕ) (j : ℕ) : Type 0 where
   pub accepted : verdict file ≡ passes
   pub head : asHead h ≡ headOf file
+  pub table : InstituteStarts file starts
   pub below : j < h .institutes
 
 -- a candidate's body
@@ -50,5 +51,5 @@ pub record MeritRead (file : List ℕ) (j : ℕ) (body : List ℕ) : Type 0 wher
 -- an institute's body gives its steps
 pub record BodyRead (file : List ℕ) (h : CodeHead) (j : ℕ) (body : List ℕ) : Type 0 where
   pub body-of : body ≡ bodyOf file (instituteRecord (asHead h) j)
-  pub steps-of : stepsIn (h .types) (h .policy) body ≡ instituteOf file j .steps
-  pub long : InstituteBody (h .types) body
+  pub steps-of : stepsIn (asHead h) body ≡ instituteOf file j .steps
+  pub lawful : LawfulSteps (asHead h) body

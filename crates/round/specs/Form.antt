@@ -10,10 +10,10 @@ abbrev pub institutesMost : Form → ℕ
 institutesMost Narrow = 32
 institutesMost Wide = 1000
 
--- the kind that stands in the file for one of the kinds 1 to 4 of document 01: a wide file has 5 for the head's 1 and 6 for a candidate's 3
-abbrev pub kindDue : Form → ℕ → ℕ
-kindDue Narrow kind = kind
-kindDue Wide kind = cond (eqb kind 1) 5 (cond (eqb kind 3) 6 kind)
+-- the kind that a file of the form has for one of the kinds 1 to 4 of document 01: a wide file has 5 for the head's 1 and 6 for a candidate's 3
+abbrev pub formKind : Form → ℕ → ℕ
+formKind Narrow kind = kind
+formKind Wide kind = cond (eqb kind 1) 5 (cond (eqb kind 3) 6 kind)
 
 -- the bytes of an entry: institute and code, the institute in two bytes where the file is wide
 abbrev pub entryWidth : Form → ℕ

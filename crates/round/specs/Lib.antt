@@ -3,9 +3,11 @@ pub mod Form
 pub mod Lists
 pub mod Round
 pub mod Records
+pub mod Steps
 pub mod Questions
 pub mod Refusal
 pub mod Reading
+pub mod Rewritten
 pub mod Rules
 pub mod Places
 pub mod Sound

@@ -1,13 +1,14 @@
 -- What stands at a place of a round, from 0.
 use Prim.Native.Nat.{ℕ}
+use mathlib.Core.Bool.{cond}
 use mathlib.Core.List.{[]}
-use lib.ListN.{getD}
+use lib.ListN.{length, getD}
 use Rattle.round.specs.declared.entry.Category.the-variants.{Open}
 use Rattle.round.specs.declared.entry.Entry.{Entry}
 use Rattle.round.specs.Round.{StepRule, Institute, Candidate, Round}
 
--- what stands beyond the last place; of it only the category of `noStep` is looked at: a seat at step 6 stands for the open entry also where
--- the institute has no such step
+-- what stands beyond the last place; of it only the category of `noStep` is looked at: under policy 0 a seat at step 6 stands for the open entry,
+-- though no institute has such a step
 abbrev pub noEntry : Entry
 noEntry = record { institute = 0; category = Open }
 
@@ -31,6 +32,10 @@ entryAt c k = getD (c .row) k noEntry
 
 abbrev pub stepAt : Institute → ℕ → StepRule
 stepAt o s = getD (o .steps) s noStep
+
+-- how many numbers, from 1, the steps of institute j have
+abbrev pub stepNumbers : Round → ℕ → ℕ
+stepNumbers r j = cond (r .stepsListed) (length (instituteAt r j .steps)) 6
 
 -- the candidate number at a place of the merit list
 abbrev pub meritAt : Institute → ℕ → ℕ

@@ -1,5 +1,5 @@
--- The questions about one record (document 01, "The questions, in order": 1 to 12; document 02, Point 6). A kind is one of document 01's, 1 to 4, in
--- both forms.
+-- The questions about one record (document 01, "The questions, in order": 1 to 12; document 02, Points 6 and 7). A kind is one of document 01's, 1 to
+-- 4, in both forms and under each policy.
 use Prim.Native.Nat.{ℕ, suc, _+_, _*_, _-_, _/_, _%_, _^_}
 use mathlib.Core.Bool.{Bool, cond, _&&_, _||_}
 use mathlib.Core.List.{List, [], _∷_, _++_}
@@ -7,9 +7,10 @@ use lib.Dec.{leb, eqb}
 use lib.ListN.{length, getD}
 use Rattle.round.specs.declared.form.Form.{Form}
 use Rattle.round.specs.declared.form.Form.the-variants.{Narrow, Wide}
-use Rattle.round.specs.Form.{institutesMost, kindDue, entryWidth}
+use Rattle.round.specs.Form.{institutesMost, entryWidth}
 use Rattle.round.specs.Lists.{all, apart, sumOf}
-use Rattle.round.specs.Records.{Head, word, headIn, bodyAt, kindAt, lengthAt}
+use Rattle.round.specs.Records.{Head, word, headIn, bodyAt, kindAt, lengthAt, ownSteps, kindDue}
+use Rattle.round.specs.Steps.{stepWidth, stepCount, positionsIn, reservedIn, stepCode, receiverIn}
 
 -- a question: its number, and whether its answer is yes
 pub record Question : Type 0 where
@@ -34,18 +35,23 @@ even x = eqb (x % 2) 0
 abbrev pub rowAllowed : Form → ℕ → Bool
 rowAllowed form len = within 2 (2 + 16 * entryWidth form) len && eqb ((len - 2) % entryWidth form) 0
 
+-- the body lengths of an institute: five positions with their reserved ones; under policy 2, 1 to 12 whole steps
+abbrev pub instituteAllowed : Head → ℕ → Bool
+instituteAllowed h len =
+    cond (ownSteps h) (within 1 12 (len / stepWidth h) && eqb (len % stepWidth h) 0) (eqb len (10 + 10 * h .types))
+
 -- 3: the body lengths that the table allows for a kind
 abbrev pub lengthAllowed : Head → ℕ → ℕ → Bool
 lengthAllowed h kind len =
     cond (eqb kind 1) (eqb len 8)
-    (cond (eqb kind 2) (eqb len (10 + 10 * h .types))
+    (cond (eqb kind 2) (instituteAllowed h len)
     (cond (eqb kind 3) (rowAllowed (h .form) len) (leb len (2 * h .candidates) && even len)))
 
 -- 1 to 4: what is asked of every record, due with a kind at a byte
 abbrev pub leadQuestions : List ℕ → Head → ℕ → ℕ → List Question
 leadQuestions file h kind start =
     asked 1 (leb (start + 4) (length file))
-    ∷ asked 2 (eqb (kindAt file start) (kindDue (h .form) kind))
+    ∷ asked 2 (eqb (kindAt file start) (kindDue h kind))
     ∷ asked 3 (lengthAllowed h kind (lengthAt file start))
     ∷ asked 4 (leb (start + 4 + lengthAt file start) (length file))
     ∷ []
@@ -54,23 +60,27 @@ leadQuestions file h kind start =
 abbrev pub headQuestions : Form → List ℕ → List Question
 headQuestions form body =
     let h = headIn form body in
-    asked 5 (within 1 512 (h .candidates) && (within 1 (institutesMost form) (h .institutes) && (leb (h .types) 8 && leb (h .policy) 1))) ∷ []
+    asked 5 (within 1 512 (h .candidates) && (within 1 (institutesMost form) (h .institutes) && (leb (h .types) 8 && leb (h .policy) 2))) ∷ []
 
--- the positions of a code in an institute's body, and those of them reserved for type t, from 0
-abbrev pub positionsIn : ℕ → List ℕ → ℕ → ℕ
-positionsIn types body code = word body (2 * ((1 + types) * code))
+-- 17 and 18: each step's category is one of the five, and its vacancies go to nobody or to a later step of the list
+abbrev pub listQuestions : Head → List ℕ → List Question
+listQuestions h body =
+    let steps : ℕ = stepCount h body in
+    let receiver : ℕ → ℕ = receiverIn h body in
+    asked 17 (all steps (λ k. leb (stepCode h body k) 4))
+    ∷ asked 18 (all steps (λ k. eqb (receiver k) 0 || within (k + 2) steps (receiver k)))
+    ∷ []
 
-abbrev pub reservedIn : ℕ → List ℕ → ℕ → ℕ → ℕ
-reservedIn types body code t = word body (2 * ((1 + types) * code + (1 + t)))
-
--- 6 and 7: the positions of all codes, and the reserved ones in each
+-- 6 and 7: the positions of all steps, and the reserved ones in each; then, of an institute that lists its own steps, 17 and 18
 abbrev pub instituteQuestions : Head → List ℕ → List Question
 instituteQuestions h body =
-    let positions : ℕ → ℕ = positionsIn (h .types) body in
-    let reserved : ℕ → ℕ → ℕ = reservedIn (h .types) body in
-    asked 6 (leb (sumOf 5 positions) 1024)
-    ∷ asked 7 (all 5 (λ code. leb (sumOf (h .types) (reserved code)) (positions code)))
-    ∷ []
+    let steps : ℕ = stepCount h body in
+    let positions : ℕ → ℕ = positionsIn h body in
+    let reserved : ℕ → ℕ → ℕ = reservedIn h body in
+    let listed = listQuestions h body in
+    asked 6 (leb (sumOf steps positions) 1024)
+    ∷ asked 7 (all steps (λ k. leb (sumOf (h .types) (reserved k)) (positions k)))
+    ∷ cond (ownSteps h) listed []
 
 -- the number of entries in a candidate's body; the institute number and the code of entry k, from 0
 abbrev pub entryCount : Form → List ℕ → ℕ

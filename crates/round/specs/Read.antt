@@ -1,5 +1,5 @@
 -- The reader's values in the words of the definitions, and what its parts are called with.
-use Prim.Native.Nat.{ℕ, suc, _+_, _*_, _^_, _≤_}
+use Prim.Native.Nat.{ℕ, suc, _+_, _*_, _^_, _≤_, _<_}
 use mathlib.Core.Bool.{Bool, _&&_, _||_}
 use mathlib.Core.List.{List}
 use lib.Dec.{leb, eqb}
@@ -9,6 +9,7 @@ use Rattle.round.specs.declared.head as code
 use Rattle.round.specs.declared.form.Form.{Form}
 use Rattle.round.specs.Form.{institutesMost, entryWidth}
 use Rattle.round.specs.Records.{Head}
+use Rattle.round.specs.Steps.{stepWidth, stepCount, stepCode, receiverIn}
 use Rattle.round.specs.Questions.{within, instituteIn, codeIn}
 
 -- the form and the numbers of a head that was read
@@ -22,12 +23,19 @@ pub record InRange (h : Head) : Type 0 where
   pub institutes-least : 1 ≤ h .institutes
   pub institutes-most : h .institutes ≤ institutesMost (h .form)
   pub types-most : h .types ≤ 8
-  pub policy-most : h .policy ≤ 1
+  pub policy-most : h .policy ≤ 2
 
--- a body of the length that an institute's has
-pub record InstituteBody (types : ℕ) (body : List ℕ) : Type 0 where
-  pub types-most : types ≤ 8
-  pub long : length body ≡ 10 + 10 * types
+-- a body of a length that an institute's has: at most 12 whole steps
+pub record InstituteBody (h : Head) (body : List ℕ) : Type 0 where
+  pub types-most : h .types ≤ 8
+  pub steps-most : stepCount h body ≤ 12
+  pub long : length body ≡ stepCount h body * stepWidth h
+
+-- the steps in it have a category each, and hand their vacancies to nobody or to one of 12 steps
+pub record LawfulSteps (h : Head) (body : List ℕ) : Type 0 where
+  pub long : InstituteBody h body
+  pub coded : (k : ℕ) → k < stepCount h body → stepCode h body k < 5
+  pub handed-on : (k : ℕ) → k < stepCount h body → receiverIn h body k ≤ 12
 
 -- a body no shorter and no longer than a candidate's may be; that it holds whole entries is for question 3
 pub record CandidateBody (form : Form) (body : List ℕ) : Type 0 where

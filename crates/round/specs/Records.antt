@@ -1,12 +1,13 @@
--- The records of a file (document 01, "Round file"; document 02, Point 6): where each starts, its body, the form of the file and the numbers of the
--- head.
+-- The records of a file (document 01, "Round file"; document 02, Points 6 and 7): where each starts, its body, the form of the file, the numbers of
+-- the head and the kinds that they make due.
 use Prim.Native.Nat.{ℕ, zero, suc, _+_, _*_}
-use mathlib.Core.Bool.{cond}
+use mathlib.Core.Bool.{Bool, cond, _&&_}
 use mathlib.Core.List.{List, _++_}
 use lib.Dec.{leb, eqb}
 use lib.ListN.{length, getD, take, drop, replicate}
 use Rattle.round.specs.declared.form.Form.{Form}
 use Rattle.round.specs.declared.form.Form.the-variants.{Narrow, Wide}
+use Rattle.round.specs.Form.{formKind}
 
 -- the two-byte number at a place, little-endian
 abbrev pub word : List ℕ → ℕ → ℕ
@@ -58,6 +59,15 @@ headIn form body = record { form = form; candidates = word body 0; institutes = 
 
 abbrev pub headOf : List ℕ → Head
 headOf file = headIn (formOf file) (bodyAt file 0)
+
+-- under policy 2 each institute lists its own steps
+abbrev pub ownSteps : Head → Bool
+ownSteps h = eqb (h .policy) 2
+
+-- the kind that stands in the file for one of the kinds 1 to 4 of document 01: 7 for an institute's 2 where each institute lists its own steps, else
+-- that of the form
+abbrev pub kindDue : Head → ℕ → ℕ
+kindDue h kind = cond (eqb kind 2 && ownSteps h) 7 (formKind (h .form) kind)
 
 -- the kinds of the records that are due after the head, by document 01's numbers: m institutes, n candidates, m merit lists
 abbrev pub dueAfter : Head → List ℕ

@@ -2,14 +2,13 @@
 -- vacancies, its own positions, and those of them that are reserved for types 1 to L.
 use Prim.Native.Nat.{ℕ, zero, suc, _+_, _*_, _≤_, _<_}
 use mathlib.Core.Path.{_≡_}
-use mathlib.Core.Bool.{cond, _&&_}
 use mathlib.Core.List.{List}
-use lib.Dec.{eqb}
 use lib.ListN.{length, getD}
 use Rattle.round.specs.Category.{categoryOf}
 use Rattle.round.specs.Lists.{tabulate}
 use Rattle.round.specs.Round.{StepRule}
-use Rattle.round.specs.Questions.{positionsIn, reservedIn}
+use Rattle.round.specs.Records.{Head}
+use Rattle.round.specs.Steps.{positionsIn, reservedIn, stepCode, receiverIn}
 use Rattle.round.specs.Reading.{stepsIn}
 
 -- number s of row k, both from 0
@@ -37,12 +36,12 @@ pub record RuleTable (types steps : ℕ) (table : List ℕ) : Type 0 where
   pub handed-on : (k : ℕ) → k < steps → numberIn types table k 1 ≤ 12
   pub own-most : (k : ℕ) → k < steps → numberIn types table k 2 ≤ 65535
 
--- the row of a code, by an institute's body, with the step that gets its vacancies
-abbrev pub rowOf : ℕ → List ℕ → ℕ → ℕ → ℕ → ℕ
-rowOf types body code receiver zero = code
-rowOf types body code receiver (suc zero) = receiver
-rowOf types body code receiver (suc (suc zero)) = positionsIn types body code
-rowOf types body code receiver (suc (suc (suc t))) = reservedIn types body code t
+-- the row of step k, from 0, in an institute's body
+abbrev pub rowOf : Head → List ℕ → ℕ → ℕ → ℕ
+rowOf h body k zero = stepCode h body k
+rowOf h body k (suc zero) = receiverIn h body k
+rowOf h body k (suc (suc zero)) = positionsIn h body k
+rowOf h body k (suc (suc (suc t))) = reservedIn h body k t
 
 -- row k was written, with own positions of two bytes, and the rows before it are as they were
 pub record RowWritten (types k : ℕ) (row : ℕ → ℕ) (before after : List ℕ) : Type 0 where
@@ -50,11 +49,7 @@ pub record RowWritten (types k : ℕ) (row : ℕ → ℕ) (before after : List �
   pub own-most : row 2 ≤ 65535
   pub kept : (q : ℕ) → q < k * (3 + types) → getD after q 0 ≡ getD before q 0
 
--- step 4 hands its vacancies to step 6 under policy 1, and no other step hands any on
-abbrev pub receiverOf : ℕ → ℕ → ℕ
-receiverOf policy code = cond (eqb policy 1 && eqb code 3) 6 0
-
 -- the table gives the steps of an institute's body
-pub record RulesRead (types policy : ℕ) (body table : List ℕ) (steps : ℕ) : Type 0 where
-  pub table-of : RuleTable types steps table
-  pub rules-of : rulesIn types steps table ≡ stepsIn types policy body
+pub record RulesRead (h : Head) (body table : List ℕ) (steps : ℕ) : Type 0 where
+  pub table-of : RuleTable (h .types) steps table
+  pub rules-of : rulesIn (h .types) steps table ≡ stepsIn h body

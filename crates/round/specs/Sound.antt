@@ -1,4 +1,4 @@
--- What holds of the round of a file that is not refused (document 01, "The questions, in order": 5 to 12).
+-- What holds of the round of a file that is not refused (document 01, "The questions, in order": 5 to 12; document 02, Points 6 and 7).
 use Prim.Native.Nat.{ℕ, _≤_, _<_, _^_}
 use mathlib.Core.Path.{_≡_}
 use mathlib.Core.Logic.{_⊎_}
@@ -6,7 +6,7 @@ use lib.ListN.{length}
 use Rattle.round.specs.declared.entry.Category.the-variants.{Open}
 use Rattle.round.specs.Lists.{sum, sumOf}
 use Rattle.round.specs.Round.{Institute, Candidate, Round}
-use Rattle.round.specs.Places.{candidateAt, instituteAt, entryAt, stepAt, meritAt}
+use Rattle.round.specs.Places.{candidateAt, instituteAt, entryAt, stepAt, stepNumbers, meritAt}
 
 -- a candidate of a round with so many institutes and types
 pub record SoundCandidate (institutes types : ℕ) (c : Candidate) : Type 0 where
@@ -21,8 +21,7 @@ pub record SoundCandidate (institutes types : ℕ) (c : Candidate) : Type 0 wher
 -- an institute of a round with so many candidates and types
 pub record SoundInstitute (candidates types : ℕ) (o : Institute) : Type 0 where
   pub positions-few : sumOf (length (o .steps)) (λ s. stepAt o s .own) ≤ 1024
-  pub steps-least : 5 ≤ length (o .steps)
-  pub steps-most : length (o .steps) ≤ 6
+  pub steps-most : length (o .steps) ≤ 12
   pub reserved-types : (s : ℕ) → s < length (o .steps) → length (stepAt o s .reserved) ≡ types
   pub reserved-within : (s : ℕ) → s < length (o .steps) → sum (stepAt o s .reserved) ≤ stepAt o s .own
   -- the merit list has different candidates of the round
@@ -40,3 +39,5 @@ pub record Sound (types : ℕ) (r : Round) : Type 0 where
   pub institutes-most : length (r .institutes) ≤ 1000
   pub candidate : (i : ℕ) → i < length (r .candidates) → SoundCandidate (length (r .institutes)) types (candidateAt r i)
   pub institute : (j : ℕ) → j < length (r .institutes) → SoundInstitute (length (r .candidates)) types (instituteAt r j)
+  -- each of its steps has a number
+  pub numbered : (j : ℕ) → j < length (r .institutes) → length (instituteAt r j .steps) ≤ stepNumbers r j

@@ -2,17 +2,22 @@
 use crate::candidate::code_in;
 use crate::candidate::entry_count;
 use crate::candidate::institute_in;
+use crate::entry::Category;
 use crate::entry::Entry;
 use crate::entry::category_of;
 use crate::form::form_of;
 use crate::head::Head;
+use crate::head::own_steps;
+use crate::institute::step_code;
+use crate::institute::step_count;
 use crate::merit::merit_in;
 use crate::word::word;
 ghost use mathlib.Core.Path.{_≡_};
-ghost use Prim.Native.Nat.{_+_, _<_, _≤_};
+ghost use Prim.Native.Nat.{_+_, _-_, _<_, _≤_};
 ghost use lib.ListN.{length};
 ghost use Rattle.round.specs.Records.{lengthAt, bodyAt};
-ghost use Rattle.round.specs.Places.{entryAt, meritAt};
+ghost use Rattle.round.specs.Reading.{roundOf};
+ghost use Rattle.round.specs.Places.{entryAt, meritAt, stepAt, stepNumbers};
 ghost use Rattle.round.specs.Access.{candidateOf, instituteOf, CandidateKnown, MeritKnown, InstituteKnown, CandidateRead, MeritRead, BodyRead};
 
 // The body of the record that starts at a byte.
@@ -94,9 +99,35 @@ pub fn merit_place(file: &[u8], starts: &[usize], j: usize, p: usize) -> usize
 }
 
 // An institute's body, which gives its steps.
-pub fn institute_body(file: &[u8], h: Head, j: usize) -> &[u8]
-    requires { ⌜ InstituteKnown (now file) h j ⌝ }
+pub fn institute_body<'a>(file: &'a [u8], h: Head, merits: &[usize], j: usize) -> &'a [u8]
+    requires { ⌜ InstituteKnown (now file) h (now merits) j ⌝ }
     ensures { λ r. ⌜ BodyRead (now (file .entry)) h j (now r) ⌝ }
 {
-    body_at(file, 12 + j * (14 + 10 * h.types))
+    body_at(file, merits[h.institutes + j])
+}
+
+// How many numbers, from 1, the steps of an institute have.
+pub fn step_numbers(file: &[u8], h: Head, merits: &[usize], j: usize) -> usize
+    requires { ⌜ InstituteKnown (now file) h (now merits) j ⌝ }
+    ensures { λ r. ⌜ r ≡ stepNumbers (roundOf (now (file .entry))) j ⌝ }
+{
+    if own_steps(h) {
+        step_count(institute_body(file, h, merits, j), h)
+    } else {
+        6
+    }
+}
+
+// The category of a step, by its number from 1.
+pub fn step_category(file: &[u8], h: Head, merits: &[usize], j: usize, step: usize) -> Category
+    requires { ⌜ InstituteKnown (now file) h (now merits) j ⌝ }
+    requires { ⌜ (1 ≤ step) × (step ≤ stepNumbers (roundOf (now file)) j) ⌝ }
+    ensures { λ r. ⌜ r ≡ stepAt (instituteOf (now (file .entry)) j) (step - 1) .category ⌝ }
+{
+    if own_steps(h) {
+        let body = institute_body(file, h, merits, j);
+        category_of(step_code(body, h, step - 1) as u8)
+    } else {
+        category_of((step - 1) as u8)
+    }
 }

@@ -1,6 +1,5 @@
 // Entries: an institute together with a category.
 ghost use mathlib.Core.Path.{_≡_};
-ghost use Prim.Native.Nat.{_-_, _≤_};
 ghost use Rattle.round.specs.Category.{codeOf, categoryOf};
 
 // The five categories; `Open` of a candidate is the general category.
@@ -42,12 +41,4 @@ pub fn category_of(code: u8) -> Category
         4 => Category::EWS,
         _ => Category::Open,
     }
-}
-
-// The category that a step considers, by its number: steps 1 to 5 those of codes 0 to 4, step 6 open.
-pub fn step_category(step: u8) -> Category
-    requires { ⌜ 1 ≤ step ⌝ }
-    ensures { λ r. ⌜ r ≡ categoryOf (step - 1) ⌝ }
-{
-    category_of(step - 1)
 }

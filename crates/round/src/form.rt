@@ -2,7 +2,7 @@
 use crate::word::word;
 ghost use mathlib.Core.Path.{_≡_};
 ghost use Prim.Native.Nat.{_*_, _≤_};
-ghost use Rattle.round.specs.Form.{institutesMost, kindDue, seatWidth};
+ghost use Rattle.round.specs.Form.{institutesMost, formKind, seatWidth};
 ghost use Rattle.round.specs.Records.{formOf};
 
 // The form of a file, and so of the seats of its round.
@@ -46,9 +46,9 @@ pub fn seats_size(form: Form, candidates: usize) -> usize
     }
 }
 
-// The kind that stands in a file for one of the kinds 1 to 4.
-pub fn kind_due(form: Form, kind: usize) -> usize
-    ensures { λ r. ⌜ r ≡ kindDue form kind ⌝ }
+// The kind that a file of the form has for one of the kinds 1 to 4.
+pub fn form_kind(form: Form, kind: usize) -> usize
+    ensures { λ r. ⌜ r ≡ formKind form kind ⌝ }
 {
     match form {
         Form::Narrow => kind,

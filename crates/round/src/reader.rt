@@ -7,7 +7,7 @@ use crate::records::Part;
 use crate::records::read_kind;
 use crate::records::read_record;
 ghost use mathlib.Core.Path.{_≡_};
-ghost use Prim.Native.Nat.{_≤_};
+ghost use Prim.Native.Nat.{_*_, _≤_};
 ghost use lib.ListN.{length};
 ghost use Rattle.round.specs.Form.{institutesMost};
 ghost use Rattle.round.specs.Records.{formOf};
@@ -40,18 +40,18 @@ pub fn candidate_table() -> [usize; 512]
     [0; 512]
 }
 
-// A table for where the merit lists of a narrow file start.
-pub fn narrow_table() -> [usize; 32]
-    ensures { λ r. ⌜ length r ≡ 32 ⌝ }
+// A table for where the merit lists of a narrow file start, and behind them the records of its institutes.
+pub fn narrow_table() -> [usize; 64]
+    ensures { λ r. ⌜ length r ≡ 64 ⌝ }
 {
-    [0; 32]
+    [0; 64]
 }
 
-// A table for where the merit lists of any file start.
-pub fn wide_table() -> [usize; 1000]
-    ensures { λ r. ⌜ length r ≡ 1000 ⌝ }
+// The same for any file.
+pub fn wide_table() -> [usize; 2000]
+    ensures { λ r. ⌜ length r ≡ 2000 ⌝ }
 {
-    [0; 1000]
+    [0; 2000]
 }
 
 // The numbers that stand in for a head while none but the form is read.
@@ -67,8 +67,7 @@ fn unread(form: Form) -> Head
     }
 }
 
-// The records after the head, and the end of the file. Nobody asks later where the institutes' records start, which have one length: the table
-// of merit lists has them for a while.
+// The records after the head, and the end of the file.
 fn read_rest(
     file: &[u8],
     from: usize,
@@ -78,12 +77,13 @@ fn read_rest(
 ) -> Reading
     requires { ⌜ InRange (asHead h) ⌝ }
     requires { ⌜ from ≤ length (now file) ⌝ }
-    requires { ⌜ (512 ≤ length (now candidates)) × (institutesMost (h .form) ≤ length (now merits)) ⌝ }
+    requires { ⌜ (512 ≤ length (now candidates)) × (2 * institutesMost (h .form) ≤ length (now merits)) ⌝ }
     ensures { λ r. ⌜ RestRead (now (file .entry)) (asHead h) from r
         (now (candidates .entry)) (now (candidates .exit))
         (now (merits .entry)) (now (merits .exit)) ⌝ }
 {
-    let institutes = read_kind(file, from, h, 2, h.institutes, merits);
+    let m = h.institutes;
+    let institutes = read_kind(file, from, h, 2, m, &mut merits[m..]);
     let Part::Lawful { end } = institutes else {
         return handed(institutes);
     };
@@ -91,7 +91,7 @@ fn read_rest(
     let Part::Lawful { end } = rows else {
         return handed(rows);
     };
-    let lists = read_kind(file, end, h, 4, h.institutes, merits);
+    let lists = read_kind(file, end, h, 4, m, merits);
     let Part::Lawful { end: last } = lists else {
         return handed(lists);
     };
@@ -105,10 +105,10 @@ fn read_rest(
     }
 }
 
-// A round file: refused with the first question answered no and its byte, or read, with where each candidate's record and
-// each merit list's starts.
+// A round file: refused with the first question answered no and its byte, or read, with where each candidate's record,
+// each merit list's and each institute's starts.
 pub fn read_round(file: &[u8], candidates: &mut [usize], merits: &mut [usize]) -> Reading
-    requires { ⌜ (512 ≤ length (now candidates)) × (institutesMost (formOf (now file)) ≤ length (now merits)) ⌝ }
+    requires { ⌜ (512 ≤ length (now candidates)) × (2 * institutesMost (formOf (now file)) ≤ length (now merits)) ⌝ }
     ensures { λ r. ⌜ RoundRead (now (file .entry)) r
         (now (candidates .entry)) (now (candidates .exit))
         (now (merits .entry)) (now (merits .exit)) ⌝ }

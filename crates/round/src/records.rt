@@ -1,10 +1,12 @@
 // Records: questions 1 to 4, one record, and the records of one kind in a row.
 use crate::candidate::candidate_no;
 use crate::form::Form;
-use crate::form::kind_due;
 use crate::head::Head;
 use crate::head::head_no;
+use crate::head::kind_due;
+use crate::head::own_steps;
 use crate::institute::institute_no;
+use crate::institute::step_width;
 use crate::merit::merit_no;
 use crate::word::within;
 use crate::word::word;
@@ -13,7 +15,7 @@ ghost use mathlib.Core.Bool.{true};
 ghost use Prim.Native.Nat.{_≤_};
 ghost use lib.ListN.{length};
 ghost use Rattle.round.specs.Records.{nextAt};
-ghost use Rattle.round.specs.Questions.{firstNo, leadQuestions, kindQuestions, questionsAt, rowAllowed, lengthAllowed};
+ghost use Rattle.round.specs.Questions.{firstNo, leadQuestions, kindQuestions, questionsAt, rowAllowed, instituteAllowed, lengthAllowed};
 ghost use Rattle.round.specs.Read.{asHead, InRange};
 ghost use Rattle.round.specs.Parts.{partBy, RunRead};
 
@@ -43,6 +45,19 @@ fn row_allowed(form: Form, len: usize) -> bool
     }
 }
 
+// Whether an institute's body may have a length.
+pub fn institute_allowed(h: Head, len: usize) -> bool
+    requires { ⌜ InRange (asHead h) ⌝ }
+    ensures { λ r. ⌜ r ≡ instituteAllowed (asHead h) len ⌝ }
+{
+    if own_steps(h) {
+        let width = step_width(h);
+        within(1, 12, len / width) && len % width == 0
+    } else {
+        len == 10 + 10 * h.types
+    }
+}
+
 // Whether the table allows a body length for a kind.
 fn length_allowed(h: Head, kind: usize, len: usize) -> bool
     requires { ⌜ InRange (asHead h) ⌝ }
@@ -52,7 +67,7 @@ fn length_allowed(h: Head, kind: usize, len: usize) -> bool
         return len == 8;
     }
     if kind == 2 {
-        return len == 10 + 10 * h.types;
+        return institute_allowed(h, len);
     }
     if kind == 3 {
         let form = h.form;
@@ -76,8 +91,7 @@ fn find_record(file: &[u8], at: usize, h: Head, kind: usize) -> Part
             offset: at,
         };
     }
-    let form = h.form;
-    if word(file, at + 2) != kind_due(form, kind) {
+    if word(file, at + 2) != kind_due(h, kind) {
         return Part::Refused {
             number: 2,
             offset: at,

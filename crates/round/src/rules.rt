@@ -1,42 +1,40 @@
 // The rules of an institute's steps, as a table that its choice goes by.
+use crate::head::Head;
 use crate::institute::positions_in;
+use crate::institute::receiver_in;
 use crate::institute::reserved_in;
+use crate::institute::step_code;
+use crate::institute::step_count;
 ghost use mathlib.Core.Path.{_≡_};
 ghost use Prim.Native.Nat.{_+_, _*_, _≤_, _<_};
 ghost use lib.ListN.{length};
-ghost use Rattle.round.specs.Read.{InstituteBody};
-ghost use Rattle.round.specs.Rules.{rowOf, receiverOf, RowWritten, RulesRead};
+ghost use Rattle.round.specs.Steps.{stepCount};
+ghost use Rattle.round.specs.Read.{asHead, InstituteBody, LawfulSteps};
+ghost use Rattle.round.specs.Rules.{rowOf, RowWritten, RulesRead};
 
-// A table for the rules of policies 0 and 1.
-pub fn rule_table() -> [usize; 66]
-    ensures { λ r. ⌜ length r ≡ 66 ⌝ }
+// A table for the rules of twelve steps.
+pub fn rule_table() -> [usize; 132]
+    ensures { λ r. ⌜ length r ≡ 132 ⌝ }
 {
-    [0; 66]
+    [0; 132]
 }
 
-// The step that gets the vacancies of a code's step, 0 for none.
-fn receiver_of(policy: usize, code: usize) -> usize
-    ensures { λ r. ⌜ r ≡ receiverOf policy code ⌝ }
+// Writes the row of step k, from 0.
+fn write_rule(body: &[u8], h: Head, k: usize, table: &mut [usize])
+    requires { ⌜ InstituteBody (asHead h) (now body) ⌝ }
+    requires { ⌜ (k < stepCount (asHead h) (now body)) × (k * (3 + h .types) + (3 + h .types) ≤ length (now table)) ⌝ }
+    ensures { λ _. ⌜ RowWritten (h .types) k (rowOf (asHead h) (now (body .entry)) k) (now (table .entry)) (now (table .exit)) ⌝ }
 {
-    if policy == 1 && code == 3 { 6 } else { 0 }
-}
-
-// Writes the row of a code's step.
-fn write_rule(body: &[u8], types: usize, code: usize, receiver: usize, table: &mut [usize])
-    requires { ⌜ InstituteBody types (now body) ⌝ }
-    requires { ⌜ (code < 5) × (code * (3 + types) + (3 + types) ≤ length (now table)) ⌝ }
-    ensures { λ _. ⌜ RowWritten types code (rowOf types (now (body .entry)) code receiver) (now (table .entry)) (now (table .exit)) ⌝ }
-{
-    let at = code * (3 + types);
-    table[at] = code;
-    table[at + 1] = receiver;
-    table[at + 2] = positions_in(body, types, code);
-    for t in 0..types {
-        table[at + 3 + t] = reserved_in(body, types, code, t);
+    let at = k * (3 + h.types);
+    table[at] = step_code(body, h, k);
+    table[at + 1] = receiver_in(body, h, k);
+    table[at + 2] = positions_in(body, h, k);
+    for t in 0..h.types {
+        table[at + 3 + t] = reserved_in(body, h, k, t);
     }
 }
 
-// Writes the row of step 6: open entries, no positions of its own, none reserved, nobody to hand on to.
+// Writes the row of step 6 of policy 1: open entries, no positions of its own, none reserved, nobody to hand on to.
 fn write_dereserved(types: usize, table: &mut [usize])
     requires { ⌜ (types ≤ 8) × (6 * (3 + types) ≤ length (now table)) ⌝ }
     ensures { λ _. ⌜ RowWritten types 5 (λ s. 0) (now (table .entry)) (now (table .exit)) ⌝ }
@@ -48,19 +46,19 @@ fn write_dereserved(types: usize, table: &mut [usize])
 }
 
 // Writes the rules of an institute's body, and returns how many steps there are.
-pub fn rules_of(body: &[u8], types: usize, policy: usize, table: &mut [usize]) -> usize
-    requires { ⌜ InstituteBody types (now body) ⌝ }
-    requires { ⌜ 66 ≤ length (now table) ⌝ }
-    ensures { λ r. ⌜ RulesRead types policy (now (body .entry)) (now (table .exit)) r ⌝ }
+pub fn rules_of(body: &[u8], h: Head, table: &mut [usize]) -> usize
+    requires { ⌜ LawfulSteps (asHead h) (now body) ⌝ }
+    requires { ⌜ 132 ≤ length (now table) ⌝ }
+    ensures { λ r. ⌜ RulesRead (asHead h) (now (body .entry)) (now (table .exit)) r ⌝ }
 {
-    for code in 0..5 {
-        let receiver = receiver_of(policy, code);
-        write_rule(body, types, code, receiver, table);
+    let count = step_count(body, h);
+    for k in 0..count {
+        write_rule(body, h, k, table);
     }
-    if policy == 1 {
-        write_dereserved(types, table);
+    if h.policy == 1 {
+        write_dereserved(h.types, table);
         6
     } else {
-        5
+        count
     }
 }

@@ -1,19 +1,19 @@
 //! Compares the unit with the second program, class by class.
 
 use evidence::classes::Run;
-use evidence::files::named;
 use evidence::lists::Listed;
-use evidence::plan;
 use evidence::program::Program;
+use evidence::sort::Sort;
 use evidence::tally::Tally;
-use evidence::{fenced, fenced_reviews, widening};
-use second::form::Form;
+use evidence::{fenced, fenced_reviews, relisting, widening};
+use evidence::{plan, steps_plan};
 use std::path::{Path, PathBuf};
 use std::process::ExitCode;
 
 const USAGE: &str = "compare [--long] [--seed S] [--only NAMES] [--rounds DIR] [--keep DIR] [--program PATH]
---long runs 449,000 lawful rounds, 152,000 of them wide, and 166,000 in other orders, 1,500,000 damaged files, 500,000 of them wide,
-178,000 narrow rounds rewritten in the wide form, and over 500,000 reviews; --seed takes other
+--long runs 646,000 lawful rounds, 209,000 of them wide, 197,000 with lists of steps and 200,000 in other orders; 2,385,000 damaged files,
+665,000 of them wide and 885,000 with lists of steps; 290,000 narrow rounds rewritten in the wide form, 94,000 rounds rewritten with
+lists of steps, and over 1,000,000 reviews; --seed takes other
 made files; --only runs the classes whose names begin with one of these, parted by commas; --rounds is the folder of worked rounds;
 --keep is the folder that gets the first differing input of a class; --program is the unit's program, run on files and pipes.";
 
@@ -104,48 +104,46 @@ impl Book {
     }
 }
 
-/// The classes of allotment calls and verdicts on files of a form.
-fn calls(book: &mut Book, run: &Run, form: Form, rounds: &Path) {
-    let in_form = |name: &str| named(form, name);
-    book.class(&in_form("boundary"), || run.boundary(form));
-    let made = plan::lawful(form, run.long)
+/// The classes of allotment calls and verdicts on files of a sort.
+fn calls(book: &mut Book, run: &Run, sort: Sort, rounds: &Path) {
+    book.class(&sort.named("boundary"), || run.boundary(sort));
+    let made = plan::lawful(sort, run.long)
         .into_iter()
-        .chain(plan::damaged(form, run.long));
+        .chain(plan::damaged(sort, run.long));
     for (made, count) in made {
         book.class(&made.name(), || run.class(made, count));
     }
-    if form == Form::Narrow {
+    if sort == Sort::ALL[0] {
         book.class("orders, rounds", || run.rounds_in_order(rounds));
     }
-    for (made, count) in plan::orders(form, run.long) {
+    for (made, count) in plan::orders(sort, run.long) {
         let name = format!("orders, {}", made.name());
         book.class(&name, || run.class_in_order(&name, made, count));
     }
-    book.class(&in_form("a, one byte changed"), || run.changed(form));
-    book.class(&in_form("a, cut and extended"), || run.cut(form));
-    book.class(&in_form("a, every area length"), || run.every_length(form));
-    book.class(&in_form("area lengths"), || run.lengths(form, rounds));
-    book.class(&in_form("verdict"), || run.verdicts(form, rounds));
+    book.class(&sort.named("a, one byte changed"), || run.changed(sort));
+    book.class(&sort.named("a, cut and extended"), || run.cut(sort));
+    let name = sort.named("a, every area length");
+    book.class(&name, || run.every_length(sort));
+    book.class(&sort.named("area lengths"), || run.lengths(sort, rounds));
+    book.class(&sort.named("verdict"), || run.verdicts(sort, rounds));
 }
 
-/// The classes of reviews for rounds of a form.
-fn reviews(book: &mut Book, run: &Run, form: Form, rounds: &Path) {
-    let in_form = |name: &str| named(form, name);
-    book.class(&in_form("review, every list"), || {
-        run.every_list(form, rounds)
-    });
-    for listed in Listed::all(form) {
-        let files = plan::lists(form, run.long);
-        book.class(&in_form(listed.name()), || run.lists(form, listed, &files));
+/// The classes of reviews for rounds of a sort.
+fn reviews(book: &mut Book, run: &Run, sort: Sort, rounds: &Path) {
+    let name = sort.named("review, every list");
+    book.class(&name, || run.every_list(sort, rounds));
+    for listed in Listed::all(sort) {
+        let files = plan::lists(sort, run.long);
+        book.class(&sort.named(listed.name()), || {
+            run.lists(sort, listed, &files)
+        });
     }
-    let files = plan::mended(form, run.long);
-    book.class(&in_form("review, mended"), || run.mended(form, &files));
-    book.class(&in_form("review, damaged files"), || {
-        run.damaged_with_lists(form)
-    });
-    book.class(&in_form("review, lengths"), || {
-        run.list_lengths(form, rounds)
-    });
+    let files = plan::mended(sort, run.long);
+    book.class(&sort.named("review, mended"), || run.mended(sort, &files));
+    let name = sort.named("review, damaged files");
+    book.class(&name, || run.damaged_with_lists(sort));
+    let name = sort.named("review, lengths");
+    book.class(&name, || run.list_lengths(sort, rounds));
 }
 
 fn main() -> ExitCode {
@@ -178,22 +176,27 @@ fn main() -> ExitCode {
     );
     println!("{}", Tally::header());
     book.class("rounds", || run.rounds(&rounds));
-    for form in Form::BOTH {
-        calls(&mut book, &run, form, &rounds);
+    for sort in Sort::ALL {
+        calls(&mut book, &run, sort, &rounds);
     }
     book.class(widening::CALLS, || run.widened(&rounds));
+    book.class(relisting::CALLS, || run.relisted(&rounds));
     for (name, places, count) in plan::choices(run.long) {
         book.class(name, || run.choices(name, places, count));
+    }
+    for (name, places, count) in steps_plan::choices(run.long) {
+        book.class(name, || run.choices_by_steps(name, places, count));
     }
     let times = if run.long { 10 } else { 1 };
     book.class("choose, stray marks", || run.stray(2_000 * times));
     book.class("choose, types", || run.of_types(8_000 * times));
     book.class(fenced::NAME, || fenced::class(&run, &rounds));
     book.class("review, worked", || run.worked_lists(&rounds));
-    for form in Form::BOTH {
-        reviews(&mut book, &run, form, &rounds);
+    for sort in Sort::ALL {
+        reviews(&mut book, &run, sort, &rounds);
     }
     book.class(widening::REVIEWS, || run.widened_reviews(&rounds));
+    book.class(relisting::REVIEWS, || run.relisted_reviews(&rounds));
     book.class(fenced_reviews::NAME, || {
         fenced_reviews::class(&run, &rounds)
     });

@@ -1,8 +1,9 @@
 //! Writes generated round files: `generate CLASS SEED [COUNT] [--into DIR]`.
 
 use second::generate::{
-    boundary, damaged, lawful, two_faults, wide_boundary, wide_damaged, wide_two_faults, Class,
-    Damaged, Expected,
+    boundary, damaged, lawful, steps_boundary, steps_damaged, steps_two_faults, two_faults,
+    wide_boundary, wide_damaged, wide_steps_damaged, wide_steps_two_faults, wide_two_faults, Class,
+    Damaged, Expected, QUESTIONS, STEPS_QUESTIONS,
 };
 use std::io::{self, Write};
 use std::path::Path;
@@ -11,9 +12,12 @@ use std::process::ExitCode;
 const USAGE: &str = "generate CLASS SEED [COUNT] [--into DIR]
 CLASS is tiny, small, mid, maximal, contested, crowded, refused-1 to refused-13, damaged (any of these), two-faults or boundary;
 or, for wide rounds, wide-tiny, wide-small, wide-mid, wide-many, wide-state, wide-maximal, wide-contested, wide-refused-1 to
-wide-refused-13, wide-damaged, wide-two-faults or wide-boundary.
+wide-refused-13, wide-damaged, wide-two-faults or wide-boundary;
+or, for rounds with step lists, steps- and tiny, small, mid, maximal, contested, crowded, refused-1 to refused-13, refused-17,
+refused-18, damaged, two-faults or boundary (of both forms), or wide-steps- and tiny, small, mid, many, maximal, refused-1 to
+refused-13, refused-17, refused-18, damaged or two-faults.
 Without --into, one file goes to standard output. With it, COUNT files for SEED and the seeds after it go to DIR,
-beside each refused one the line it is made for. The files of both boundaries are fixed: SEED is the number of the first, and all are COUNT.";
+beside each refused one the line it is made for. The files of the boundaries are fixed: SEED is the number of the first, and all are COUNT.";
 
 /// A file with its name and, where it is made for a refusal, that refusal.
 struct Made {
@@ -40,23 +44,61 @@ fn make(class: &str, seed: u64) -> Option<Made> {
             refusal: None,
         });
     }
-    match class {
-        "damaged" => {
-            let number = (seed % 13) as u8 + 1;
-            Some(from_damaged(class, seed, damaged(number, seed)))
-        }
-        "wide-damaged" => {
-            let number = (seed % 13) as u8 + 1;
-            Some(from_damaged(class, seed, wide_damaged(number, seed)))
-        }
-        "two-faults" => Some(from_damaged(class, seed, two_faults(seed))),
-        "wide-two-faults" => Some(from_damaged(class, seed, wide_two_faults(seed))),
-        _ => match fixed(class) {
-            Some(files) => Some(from_fixed(class, files.into_iter().nth(seed as usize)?)),
-            None => refused(class, seed),
-        },
+    if let Some(ways) = WAYS.iter().find(|ways| class == ways.of("damaged")) {
+        let number = ways.numbers[seed as usize % ways.numbers.len()];
+        return Some(from_damaged(class, seed, (ways.damaged)(number, seed)));
+    }
+    if let Some(ways) = WAYS.iter().find(|ways| class == ways.of("two-faults")) {
+        return Some(from_damaged(class, seed, (ways.two_faults)(seed)));
+    }
+    match fixed(class) {
+        Some(files) => Some(from_fixed(class, files.into_iter().nth(seed as usize)?)),
+        None => refused(class, seed),
     }
 }
+
+/// How the files of classes whose names begin alike are damaged, and for which questions.
+struct Ways {
+    lead: &'static str,
+    damaged: fn(u8, u64) -> Damaged,
+    two_faults: fn(u64) -> Damaged,
+    numbers: &'static [u8],
+}
+
+impl Ways {
+    /// The name of a class.
+    fn of(&self, name: &str) -> String {
+        format!("{}{name}", self.lead)
+    }
+}
+
+/// The ways for files of both forms, without step lists and with them.
+const WAYS: [Ways; 4] = [
+    Ways {
+        lead: "",
+        damaged,
+        two_faults,
+        numbers: &QUESTIONS,
+    },
+    Ways {
+        lead: "wide-",
+        damaged: wide_damaged,
+        two_faults: wide_two_faults,
+        numbers: &QUESTIONS,
+    },
+    Ways {
+        lead: "steps-",
+        damaged: steps_damaged,
+        two_faults: steps_two_faults,
+        numbers: &STEPS_QUESTIONS,
+    },
+    Ways {
+        lead: "wide-steps-",
+        damaged: wide_steps_damaged,
+        two_faults: wide_steps_two_faults,
+        numbers: &STEPS_QUESTIONS,
+    },
+];
 
 /// A file with its name and what it is expected to give.
 type Fixed = (String, Vec<u8>, Expected);
@@ -66,6 +108,7 @@ fn fixed(class: &str) -> Option<Vec<Fixed>> {
     match class {
         "boundary" => Some(boundary()),
         "wide-boundary" => Some(wide_boundary()),
+        "steps-boundary" => Some(steps_boundary()),
         _ => None,
     }
 }
@@ -85,14 +128,12 @@ fn from_fixed(class: &str, (name, file, expected): Fixed) -> Made {
 
 /// The file of a class that is named by the question it is made for.
 fn refused(class: &str, seed: u64) -> Option<Made> {
-    let (damaged, number): (fn(u8, u64) -> Damaged, &str) = match class.strip_prefix("wide-") {
-        Some(narrow) => (wide_damaged, narrow.strip_prefix("refused-")?),
-        None => (damaged, class.strip_prefix("refused-")?),
-    };
-    let number = number.parse().ok()?;
-    (1..=13)
-        .contains(&number)
-        .then(|| from_damaged(class, seed, damaged(number, seed)))
+    let ways = WAYS.iter().find_map(|ways| {
+        let number = class.strip_prefix(&ways.of("refused-"))?;
+        Some((ways, number.parse().ok()?))
+    });
+    let (ways, number) = ways.filter(|(ways, number)| ways.numbers.contains(number))?;
+    Some(from_damaged(class, seed, (ways.damaged)(number, seed)))
 }
 
 /// Writes a made file, and the refusal it is made for, to a folder, which is made where it is missing.

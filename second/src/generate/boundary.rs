@@ -2,7 +2,7 @@
 
 use super::lawful::{lawful, lawful_round, Class};
 use crate::form::Form;
-use crate::reading::{Candidate, Entry, Institute, Round, LONGEST, OPEN};
+use crate::reading::{Candidate, Entry, Institute, Round, LONGEST_WITHOUT_STEPS, OPEN};
 use crate::writing::{records, write};
 
 /// What a boundary file is expected to give.
@@ -46,6 +46,7 @@ pub(super) fn plain_round(types: usize) -> Round {
         institutes: vec![Institute {
             positions: [1, 0, 0, 0, 0],
             reserved: std::array::from_fn(|_| vec![0; types]),
+            steps: Vec::new(),
         }],
         candidates: vec![plain_candidate()],
         merit: vec![vec![0]],
@@ -158,7 +159,8 @@ pub fn boundary() -> Vec<(String, Vec<u8>, Expected)> {
     add("types-8", write(&plain_round(8)), Passes);
     add("types-9", write(&plain_round(9)), refused(5, 0));
     add("policy-1", with_number(0, 10, 1), Passes);
-    add("policy-2", with_number(0, 10, 2), refused(5, 0));
+    add("policy-2", with_number(0, 10, 2), refused(2, 12));
+    add("policy-3", with_number(0, 10, 3), refused(5, 0));
     add("policy-256", with_number(0, 10, 256), refused(5, 0));
 
     add("kind-256-more", with_number(0, 2, 257), refused(2, 0));
@@ -305,7 +307,11 @@ pub fn boundary() -> Vec<(String, Vec<u8>, Expected)> {
     add("longest", longest.clone(), Passes);
     let mut more = longest;
     more.push(0);
-    add("longest-and-1-more", more, refused(13, LONGEST));
+    add(
+        "longest-and-1-more",
+        more,
+        refused(13, LONGEST_WITHOUT_STEPS),
+    );
     let mut cut = lawful(Class::Small, 3);
     let last = records(&lawful_round(Class::Small, 3))
         .pop()
@@ -316,7 +322,7 @@ pub fn boundary() -> Vec<(String, Vec<u8>, Expected)> {
     all
 }
 
-/// The longest lawful file.
+/// The longest lawful file without step lists.
 fn longest() -> Vec<u8> {
     lawful(Class::Maximal, 1)
 }

@@ -4,7 +4,14 @@ use super::lawful::{lawful_round, Class};
 use crate::form::Form;
 use crate::random::Random;
 use crate::reading::{Candidate, Entry, Round, MOST_CANDIDATES, OPEN};
+use crate::steps::{step_bytes, LISTED, MOST_STEPS};
 use crate::writing::records;
+
+/// The questions that files without step lists are damaged for.
+pub const QUESTIONS: [u8; 13] = [1, 2, 3, 4, 5, 6, 7, 8, 9, 10, 11, 12, 13];
+
+/// The questions that files with step lists are damaged for.
+pub const STEPS_QUESTIONS: [u8; 15] = [1, 2, 3, 4, 5, 6, 7, 17, 18, 8, 9, 10, 11, 12, 13];
 
 /// A damaged file with the refusal it was made for.
 #[derive(Clone, Debug, PartialEq, Eq)]
@@ -14,13 +21,57 @@ pub struct Damaged {
     pub offset: usize,
 }
 
+/// Which files are damaged: those of a form, with step lists or without.
+#[derive(Clone, Copy)]
+struct Files {
+    form: Form,
+    lists: bool,
+}
+
+/// Narrow files without step lists.
+const NARROW: Files = Files {
+    form: Form::Narrow,
+    lists: false,
+};
+
+/// Wide files without step lists.
+const WIDE: Files = Files {
+    form: Form::Wide,
+    lists: false,
+};
+
+/// Narrow files with step lists.
+const STEPS: Files = Files {
+    form: Form::Narrow,
+    lists: true,
+};
+
+/// Wide files with step lists.
+const WIDE_STEPS: Files = Files {
+    form: Form::Wide,
+    lists: true,
+};
+
+/// A class of such files.
+fn some_class(random: &mut Random, files: Files) -> Class {
+    let [narrow, small, many] = match files.lists {
+        false => [Class::Small, Class::WideSmall, Class::WideMany],
+        true => [
+            Class::StepsSmall,
+            Class::WideStepsSmall,
+            Class::WideStepsMany,
+        ],
+    };
+    match files.form {
+        Form::Narrow => narrow,
+        Form::Wide => random.pick(&[small, small, many]),
+    }
+}
+
 /// A round with something to damage in each record: 1 to 7 types, rows of at least two entries, whole merit lists of at least two candidates.
-fn base(random: &mut Random, form: Form) -> Round {
+fn base(random: &mut Random, files: Files) -> Round {
     loop {
-        let class = match form {
-            Form::Narrow => Class::Small,
-            Form::Wide => random.pick(&[Class::WideSmall, Class::WideSmall, Class::WideMany]),
-        };
+        let class = some_class(random, files);
         let mut round = lawful_round(class, random.bits());
         let n = round.candidates.len();
         if n < 2 || !(1..=7).contains(&round.types) {
@@ -55,9 +106,17 @@ fn kind_at(round: &Round, place: usize) -> usize {
     let m = round.institutes.len();
     match place {
         0 => round.form.head(),
-        _ if place <= m => 2,
+        _ if place <= m => institute_kind(round),
         _ if place <= m + round.candidates.len() => round.form.candidate(),
         _ => 4,
+    }
+}
+
+/// The kind of an institute's record.
+fn institute_kind(round: &Round) -> usize {
+    match round.policy {
+        LISTED => 7,
+        _ => 2,
     }
 }
 
@@ -72,24 +131,34 @@ fn get(bytes: &[u8], at: usize) -> usize {
 }
 
 /// The kind of record that a question is put to, where it is only one kind.
-fn kind_asked(form: Form, number: u8) -> Option<usize> {
+fn kind_asked(round: &Round, number: u8) -> Option<usize> {
     match number {
-        5 => Some(form.head()),
-        6 | 7 => Some(2),
-        8..=10 => Some(form.candidate()),
+        5 => Some(round.form.head()),
+        6 | 7 => Some(institute_kind(round)),
+        17 | 18 => Some(7),
+        8..=10 => Some(round.form.candidate()),
         11 | 12 => Some(4),
         _ => None,
     }
 }
 
-/// Damages one record so that a question from 2, 3 and 5 to 12 is the first of its questions answered no.
+/// Where the positions of each category, or of each step, stand in an institute's record.
+fn positions_at(round: &Round, record: &[u8]) -> Vec<usize> {
+    let width = step_bytes(round.types);
+    match round.policy {
+        LISTED => (6..record.len()).step_by(width).collect(),
+        _ => (4..record.len()).step_by(width - 2).collect(),
+    }
+}
+
+/// Damages one record so that a question from 2, 3, 5 to 12, 17 and 18 is the first of its questions answered no.
 fn damage(random: &mut Random, round: &Round, record: &mut [u8], number: u8) {
     let n = round.candidates.len();
     let m = round.institutes.len();
     let types = round.types;
     match number {
-        2 => damage_kind(random, round.form, record),
-        3 => damage_length(random, n, record),
+        2 => damage_kind(random, round, record),
+        3 => damage_length(random, round, record),
         5 => {
             let [more, many] = match round.form {
                 Form::Narrow => [33, 256],
@@ -104,25 +173,26 @@ fn damage(random: &mut Random, round: &Round, record: &mut [u8], number: u8) {
                 (1, many),
                 (2, 9),
                 (2, 65_535),
-                (3, 2),
+                (3, 3),
                 (3, 256),
             ]);
             put(record, 4 + 2 * field, value);
         }
         6 => {
-            let category = random.from_to(0, 4);
-            let others: usize = (0..5)
-                .filter(|&other| other != category)
-                .map(|other| get(record, 4 + other * 2 * (1 + types)))
+            let all = positions_at(round, record);
+            let own = random.from_to(0, all.len() - 1);
+            let others: usize = (0..all.len())
+                .filter(|&other| other != own)
+                .map(|other| get(record, all[other]))
                 .sum();
             // The last of these sums to a small number where sums wrap.
             let wrapping = if others > 0 { 65_536 - others } else { 65_535 };
             let value = random.pick(&[1025 - others, 1026, 65_535, wrapping]);
-            put(record, 4 + category * 2 * (1 + types), value);
+            put(record, all[own], value);
         }
         7 => {
-            let category = random.from_to(0, 4);
-            let start = 4 + category * 2 * (1 + types);
+            let all = positions_at(round, record);
+            let start = all[random.from_to(0, all.len() - 1)];
             let held = random.from_to(1, types);
             let others: usize = (1..=types)
                 .filter(|&other| other != held)
@@ -164,8 +234,28 @@ fn damage(random: &mut Random, round: &Round, record: &mut [u8], number: u8) {
             put(record, at, value);
         }
         12 => copy_part(random, record, 4, 2),
+        17 => {
+            let step = random.pick(&positions_at(round, record)) - 2;
+            record[step] = random.pick(&[5, 6, 7, 128, 255]);
+        }
+        18 => {
+            let steps = positions_at(round, record);
+            let place = random.from_to(0, steps.len() - 1);
+            record[steps[place] - 1] = wrong_receiver(random, place + 1, steps.len());
+        }
         _ => unreachable!("this question is not about what one record holds"),
     }
+}
+
+/// The number of a step that cannot get the vacancies of a step of this number: itself, an earlier one, or one beyond the list.
+fn wrong_receiver(random: &mut Random, number: usize, count: usize) -> u8 {
+    let wrong = match random.from_to(1, 4) {
+        1 => number,
+        2 => random.from_to(1, number),
+        3 => count + 1,
+        _ => random.from_to(count + 1, 255),
+    };
+    wrong as u8
 }
 
 /// Makes the institute at the start of an entry one of too large a number, in the wide form also one whose low byte stays.
@@ -181,11 +271,12 @@ fn damage_institute(random: &mut Random, form: Form, m: usize, entry: &mut [u8])
 }
 
 /// Makes the kind another one.
-fn damage_kind(random: &mut Random, form: Form, record: &mut [u8]) {
+fn damage_kind(random: &mut Random, round: &Round, record: &mut [u8]) {
     let due = get(record, 2);
-    let all: &[usize] = match form {
-        Form::Narrow => &[0, 1, 2, 3, 4, 5],
-        Form::Wide => &[0, 1, 2, 3, 4, 5, 6, 7],
+    let all: &[usize] = match (round.form, round.policy) {
+        (_, LISTED) => &[0, 1, 2, 3, 4, 5, 6, 7, 8],
+        (Form::Narrow, _) => &[0, 1, 2, 3, 4, 5],
+        (Form::Wide, _) => &[0, 1, 2, 3, 4, 5, 6, 7],
     };
     let others: Vec<usize> = [all, &[due + 256, 65_535]]
         .concat()
@@ -197,12 +288,15 @@ fn damage_kind(random: &mut Random, form: Form, record: &mut [u8]) {
 }
 
 /// Makes the length one the table does not allow.
-fn damage_length(random: &mut Random, n: usize, record: &mut [u8]) {
+fn damage_length(random: &mut Random, round: &Round, record: &mut [u8]) {
     let due = get(record, 0);
+    let n = round.candidates.len();
+    let width = step_bytes(round.types);
     let lengths = match get(record, 2) {
         3 => vec![0, 1, 3, 33, 35, 36, due + 1, 65_535],
         6 => vec![0, 1, 3, 4, 6, 7, 49, 51, 52, 53, due + 1, due + 2, 65_535],
         4 => vec![1, due + 1, 2 * n + 1, 2 * n + 2, 65_535],
+        7 => vec![0, 2, width - 2, due - 1, due + 2, (MOST_STEPS + 1) * width],
         _ => vec![0, due - 2, due - 1, due + 1, due + 2, 65_535],
     };
     let length = random.pick(&lengths);
@@ -227,7 +321,7 @@ fn offset_of(records: &[Vec<u8>], place: usize) -> usize {
 fn some_place(random: &mut Random, round: &Round, records: &[Vec<u8>], number: u8) -> usize {
     loop {
         let place = random.from_to(0, records.len() - 1);
-        let asked = kind_asked(round.form, number);
+        let asked = kind_asked(round, number);
         if asked.is_none() || asked == Some(kind_at(round, place)) {
             return place;
         }
@@ -253,7 +347,7 @@ fn due_under(told: Form, round: &Round, head: &[u8], faults: &[(usize, u8)]) -> 
     let in_range = (1..=MOST_CANDIDATES).contains(&n)
         && (1..=told.most_institutes()).contains(&m)
         && types <= 8
-        && policy <= 1;
+        && policy <= usize::from(LISTED);
     if !in_range {
         return (0, 5);
     }
@@ -264,18 +358,28 @@ fn due_under(told: Form, round: &Round, head: &[u8], faults: &[(usize, u8)]) -> 
 
 /// A file whose first question answered no is the one with this number, from 1 to 13.
 pub fn damaged(number: u8, seed: u64) -> Damaged {
-    damaged_in(Form::Narrow, number, seed)
+    damaged_in(NARROW, number, seed)
 }
 
 /// A wide file whose first question answered no is the one with this number, from 1 to 13; a head that tells the narrow form may make it question 5 for 2.
 pub fn wide_damaged(number: u8, seed: u64) -> Damaged {
-    damaged_in(Form::Wide, number, seed)
+    damaged_in(WIDE, number, seed)
 }
 
-/// A file of a form, damaged for a question.
-fn damaged_in(form: Form, number: u8, seed: u64) -> Damaged {
+/// A file with step lists whose first question answered no is the one with this number, from 1 to 13, 17 or 18.
+pub fn steps_damaged(number: u8, seed: u64) -> Damaged {
+    damaged_in(STEPS, number, seed)
+}
+
+/// A wide file with step lists whose first question answered no is the one with this number, from 1 to 13, 17 or 18; a head that tells the narrow form may make it question 5 for 2.
+pub fn wide_steps_damaged(number: u8, seed: u64) -> Damaged {
+    damaged_in(WIDE_STEPS, number, seed)
+}
+
+/// One of such files, damaged for a question.
+fn damaged_in(files: Files, number: u8, seed: u64) -> Damaged {
     let mut random = Random::new(seed);
-    let round = base(&mut random, form);
+    let round = base(&mut random, files);
     let mut records = records(&round);
     let place = some_place(&mut random, &round, &records, number);
     let offset = offset_of(&records, place);
@@ -319,19 +423,30 @@ fn damaged_in(form: Form, number: u8, seed: u64) -> Damaged {
 
 /// A file with two faults, in one record or in two; the first decides.
 pub fn two_faults(seed: u64) -> Damaged {
-    two_faults_in(Form::Narrow, seed)
+    two_faults_in(NARROW, seed)
 }
 
 /// A wide file with two faults, in one record or in two; the first decides.
 pub fn wide_two_faults(seed: u64) -> Damaged {
-    two_faults_in(Form::Wide, seed)
+    two_faults_in(WIDE, seed)
 }
 
-/// A file of a form with two faults that do not fit together to another form.
-fn two_faults_in(form: Form, seed: u64) -> Damaged {
+/// A file with step lists and two faults, in one record or in two; the first decides.
+pub fn steps_two_faults(seed: u64) -> Damaged {
+    two_faults_in(STEPS, seed)
+}
+
+/// A wide file with step lists and two faults, in one record or in two; the first decides.
+pub fn wide_steps_two_faults(seed: u64) -> Damaged {
+    two_faults_in(WIDE_STEPS, seed)
+}
+
+/// One of such files with two faults that do not fit together to another form.
+fn two_faults_in(files: Files, seed: u64) -> Damaged {
+    let form = files.form;
     let mut random = Random::new(seed);
     loop {
-        let round = base(&mut random, form);
+        let round = base(&mut random, files);
         let (records, faults) = with_two_faults(&mut random, &round);
         let first = round.institutes.len() + 1;
         let told = Form::told(get(&records[0], 2));
@@ -350,17 +465,20 @@ fn two_faults_in(form: Form, seed: u64) -> Damaged {
 /// The records of a round with two faults, and these, each a place and a number, the first one first.
 fn with_two_faults(random: &mut Random, round: &Round) -> (Vec<Vec<u8>>, [(usize, u8); 2]) {
     let mut records = records(round);
-    let numbers = [2, 3, 5, 6, 7, 8, 9, 10, 11, 12];
-    let first = random.pick(&numbers);
+    let numbers: &[u8] = match round.policy {
+        LISTED => &[2, 3, 5, 6, 7, 8, 9, 10, 11, 12, 6, 7, 17, 18, 17, 18],
+        _ => &[2, 3, 5, 6, 7, 8, 9, 10, 11, 12],
+    };
+    let first = random.pick(numbers);
     let place = some_place(random, round, &records, first);
     let (second, other) = loop {
-        let second = random.pick(&numbers);
+        let second = random.pick(numbers);
         let other = if random.one_in(2) {
             place
         } else {
             some_place(random, round, &records, second)
         };
-        let asked = kind_asked(round.form, second);
+        let asked = kind_asked(round, second);
         let fits = asked.is_none() || asked == Some(kind_at(round, other));
         if fits && (second, other) != (first, place) {
             break (second, other);

@@ -1,8 +1,10 @@
 //! Lawful rounds of several sizes.
 
+use super::step_list::{some_reserved, some_steps};
 use crate::form::Form;
 use crate::random::Random;
 use crate::reading::{Candidate, Entry, Institute, Round, OPEN};
+use crate::steps::{LISTED, MOST_STEPS};
 use crate::writing::write;
 
 /// The sizes of lawful rounds.
@@ -34,11 +36,33 @@ pub enum Class {
     WideMaximal,
     /// As wide and maximal, with like rows of 32 institutes and merit against the order of going.
     WideContested,
+    /// As tiny, with step lists.
+    StepsTiny,
+    /// As small, with step lists.
+    StepsSmall,
+    /// As mid, with step lists.
+    StepsMid,
+    /// As maximal, with twelve steps at each institute: the longest files.
+    StepsMaximal,
+    /// As contested, with twelve steps at each institute.
+    StepsContested,
+    /// As crowded, with step lists.
+    StepsCrowded,
+    /// As wide and tiny, with step lists.
+    WideStepsTiny,
+    /// As wide and small, with step lists.
+    WideStepsSmall,
+    /// As wide and mid, with step lists.
+    WideStepsMid,
+    /// As wide with many institutes, up to 480 of them, with step lists; no file above 65,536 bytes.
+    WideStepsMany,
+    /// As wide and maximal, with twelve steps at each institute: the longest files.
+    WideStepsMaximal,
 }
 
 impl Class {
     /// All classes.
-    pub const ALL: [Class; 13] = [
+    pub const ALL: [Class; 24] = [
         Class::Tiny,
         Class::Small,
         Class::Mid,
@@ -52,11 +76,27 @@ impl Class {
         Class::WideState,
         Class::WideMaximal,
         Class::WideContested,
+        Class::StepsTiny,
+        Class::StepsSmall,
+        Class::StepsMid,
+        Class::StepsMaximal,
+        Class::StepsContested,
+        Class::StepsCrowded,
+        Class::WideStepsTiny,
+        Class::WideStepsSmall,
+        Class::WideStepsMid,
+        Class::WideStepsMany,
+        Class::WideStepsMaximal,
     ];
 
     /// The form of the rounds of the class.
     pub fn form(self) -> Form {
         shape(self).form
+    }
+
+    /// Whether the rounds of the class have step lists.
+    pub fn has_step_lists(self) -> bool {
+        shape(self).steps.1 > 0
     }
 
     /// The name of the class.
@@ -75,12 +115,23 @@ impl Class {
             Class::WideState => "wide-state",
             Class::WideMaximal => "wide-maximal",
             Class::WideContested => "wide-contested",
+            Class::StepsTiny => "steps-tiny",
+            Class::StepsSmall => "steps-small",
+            Class::StepsMid => "steps-mid",
+            Class::StepsMaximal => "steps-maximal",
+            Class::StepsContested => "steps-contested",
+            Class::StepsCrowded => "steps-crowded",
+            Class::WideStepsTiny => "wide-steps-tiny",
+            Class::WideStepsSmall => "wide-steps-small",
+            Class::WideStepsMid => "wide-steps-mid",
+            Class::WideStepsMany => "wide-steps-many",
+            Class::WideStepsMaximal => "wide-steps-maximal",
         }
     }
 }
 
 /// From the least to the most of something.
-type Span = (usize, usize);
+pub(super) type Span = (usize, usize);
 
 /// What a class fixes about its rounds.
 struct Shape {
@@ -88,8 +139,10 @@ struct Shape {
     candidates: Span,
     institutes: Span,
     types: Span,
-    /// Positions of one category at one institute.
+    /// Positions of one category, or of one step of a list, at one institute.
     positions: Span,
+    /// Steps of a list; 0 where the rounds have none.
+    steps: Span,
     /// How many institutes the rows of a round name, where there are as many; 0 for all.
     named: usize,
     /// Entries of a row, where as many different ones are lawful.
@@ -109,6 +162,7 @@ fn shape(class: Class) -> Shape {
             institutes: (1, 3),
             types: (0, 3),
             positions: (0, 2),
+            steps: (0, 0),
             named: 0,
             entries: (0, 6),
             absent: 10,
@@ -120,6 +174,7 @@ fn shape(class: Class) -> Shape {
             institutes: (1, 6),
             types: (0, 8),
             positions: (0, 3),
+            steps: (0, 0),
             named: 0,
             entries: (0, 12),
             absent: 8,
@@ -131,6 +186,7 @@ fn shape(class: Class) -> Shape {
             institutes: (6, 16),
             types: (0, 8),
             positions: (0, 6),
+            steps: (0, 0),
             named: 0,
             entries: (2, 16),
             absent: 12,
@@ -142,6 +198,7 @@ fn shape(class: Class) -> Shape {
             institutes: (32, 32),
             types: (8, 8),
             positions: (0, 6),
+            steps: (0, 0),
             named: 0,
             entries: (16, 16),
             absent: 0,
@@ -153,6 +210,7 @@ fn shape(class: Class) -> Shape {
             institutes: (32, 32),
             types: (8, 8),
             positions: (1, 2),
+            steps: (0, 0),
             named: 0,
             entries: (16, 16),
             absent: 0,
@@ -164,6 +222,7 @@ fn shape(class: Class) -> Shape {
             institutes: (1, 2),
             types: (8, 8),
             positions: (20, 200),
+            steps: (0, 0),
             named: 0,
             entries: (1, 4),
             absent: 50,
@@ -216,6 +275,31 @@ fn shape(class: Class) -> Shape {
             named: 32,
             ..shape(Class::Contested)
         },
+        Class::StepsTiny => with_lists(1, Class::Tiny),
+        Class::StepsSmall => with_lists(1, Class::Small),
+        Class::StepsMid => with_lists(1, Class::Mid),
+        Class::StepsMaximal => with_lists(MOST_STEPS, Class::Maximal),
+        Class::StepsContested => with_lists(MOST_STEPS, Class::Contested),
+        Class::StepsCrowded => Shape {
+            positions: (20, 85),
+            ..with_lists(1, Class::Crowded)
+        },
+        Class::WideStepsTiny => with_lists(1, Class::WideTiny),
+        Class::WideStepsSmall => with_lists(1, Class::WideSmall),
+        Class::WideStepsMid => with_lists(1, Class::WideMid),
+        Class::WideStepsMany => Shape {
+            institutes: (257, 480),
+            ..with_lists(1, Class::WideMany)
+        },
+        Class::WideStepsMaximal => with_lists(MOST_STEPS, Class::WideMaximal),
+    }
+}
+
+/// The shape of a class with lists of at least so many steps.
+fn with_lists(least: usize, class: Class) -> Shape {
+    Shape {
+        steps: (least, MOST_STEPS),
+        ..shape(class)
     }
 }
 
@@ -232,7 +316,10 @@ pub fn lawful_round(class: Class, seed: u64) -> Round {
     let n = span(shape.candidates);
     let m = span(shape.institutes);
     let types = span(shape.types);
-    let policy = span((0, 1)) as u16;
+    let policy = match (span((0, 1)), shape.steps) {
+        (drawn, (0, 0)) => drawn as u16,
+        _ => LISTED,
+    };
     let thin = span((0, 3));
     let named = match shape.named {
         0 => (0..m).collect(),
@@ -268,22 +355,17 @@ fn some_named(random: &mut Random, m: usize, count: usize) -> Vec<usize> {
     named
 }
 
-/// An institute with positions in the span, a random part of them reserved.
+/// An institute with positions in the span, a random part of them reserved, or with a step list.
 fn some_institute(random: &mut Random, types: usize, shape: &Shape) -> Institute {
-    let mut institute = Institute {
-        positions: [0; 5],
-        reserved: Default::default(),
-    };
+    let mut institute = Institute::default();
+    if shape.steps.1 > 0 {
+        institute.steps = some_steps(random, types, shape.steps, shape.positions);
+        return institute;
+    }
     for category in 0..5 {
         let positions = random.from_to(shape.positions.0, shape.positions.1);
-        let mut reserved = vec![0; types];
-        if types > 0 {
-            for _ in 0..random.from_to(0, positions) {
-                reserved[random.from_to(0, types - 1)] += 1;
-            }
-        }
         institute.positions[category] = positions;
-        institute.reserved[category] = reserved;
+        institute.reserved[category] = some_reserved(random, types, positions);
     }
     if institute.positions[0] == 0 && !random.one_in(4) {
         institute.positions[0] = 1;

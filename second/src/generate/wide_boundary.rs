@@ -3,7 +3,7 @@
 use super::boundary::{plain_candidate, plain_round, refused, Expected, Expected::Passes, A};
 use super::lawful::{lawful, Class};
 use crate::form::Form;
-use crate::reading::{Entry, Round, LONGEST_WIDE, OPEN};
+use crate::reading::{Entry, Round, LONGEST_WIDE_WITHOUT_STEPS, OPEN};
 use crate::widening::{wide, widened};
 use crate::writing::{record, records, write};
 
@@ -148,7 +148,8 @@ fn of_heads() -> Files {
     add("types-8", changed(8, |_| {}), Passes);
     add("types-9", changed(9, |_| {}), refused(5, 0));
     add("policy-1", plain_with(10, 1), Passes);
-    add("policy-2", plain_with(10, 2), refused(5, 0));
+    add("policy-2", plain_with(10, 2), refused(2, 12));
+    add("policy-3", plain_with(10, 3), refused(5, 0));
     add("policy-256", plain_with(10, 256), refused(5, 0));
     add("head-length-7", plain_with(0, 7), refused(3, 0));
     add("head-length-10", plain_with(0, 10), refused(3, 0));
@@ -353,7 +354,7 @@ fn of_sizes() -> Files {
     let more = [&longest[..], &[0]].concat();
     let mut cut = longest.clone();
     cut.pop();
-    let last = LONGEST_WIDE - 4 - 2 * 512;
+    let last = LONGEST_WIDE_WITHOUT_STEPS - 4 - 2 * 512;
     let mut files: Files = [65_535, 65_536, 65_537]
         .into_iter()
         .map(|bytes| (format!("{bytes}-bytes"), of_bytes(bytes), Passes))
@@ -363,7 +364,7 @@ fn of_sizes() -> Files {
         (
             "longest-and-1-more".to_string(),
             more,
-            refused(13, LONGEST_WIDE),
+            refused(13, LONGEST_WIDE_WITHOUT_STEPS),
         ),
         ("longest-but-1".to_string(), cut, refused(4, last)),
     ]);

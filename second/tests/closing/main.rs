@@ -39,11 +39,12 @@ fn larger_rounds() -> impl Iterator<Item = Round> {
 }
 
 /// The closing places in other words, from all offers ever made.
-fn tried(process: &Process<impl Rule>) -> Vec<[usize; 6]> {
+fn tried(process: &Process<impl Rule>) -> Vec<Vec<usize>> {
     (0..process.made.len())
         .map(|institute| {
             by_trying(process.round, institute, &process.made[institute])
                 .map(|step| step.by_merit.last().map_or(0, |place| place + 1))
+                .to_vec()
         })
         .collect()
 }
@@ -88,7 +89,7 @@ fn those_held_for_use_and_by_merit_are_those_found_by_trying_every_set() {
 }
 
 /// The closing places from the seats alone: down the merit list, a holder with whom the use of the step's holders does not rise is there by merit.
-fn from_the_seats(round: &Round, seats: &[Option<Seat>]) -> Vec<[usize; 6]> {
+fn from_the_seats(round: &Round, seats: &[Option<Seat>]) -> Vec<Vec<usize>> {
     let step_closes = |institute: usize, step: u8| {
         let reserved: &[usize] = match step {
             6 => &[],
@@ -109,7 +110,7 @@ fn from_the_seats(round: &Round, seats: &[Option<Seat>]) -> Vec<[usize; 6]> {
         closing
     };
     (0..round.institutes.len())
-        .map(|institute| std::array::from_fn(|step| step_closes(institute, step as u8 + 1)))
+        .map(|institute| (1..=6).map(|step| step_closes(institute, step)).collect())
         .collect()
 }
 
@@ -192,8 +193,8 @@ fn the_tiny_rounds_reject_marked_candidates_and_have_steps_that_take_both_ways()
             both += u64::from(
                 (1..=5).any(|step| takes(step, Way::ForUse) && takes(step, Way::ByMerit)),
             );
-            let merit = &round.merit[institute];
-            other += u64::from(Document.closing(merit, held) != UseCounted.closing(merit, held));
+            let closing = Document.closing(&round, institute, held);
+            other += u64::from(closing != UseCounted.closing(&round, institute, held));
         }
     }
     assert!(marked * 4 > ROUNDS, "{marked}");

@@ -10,7 +10,7 @@ pub fn folder() -> PathBuf {
     PathBuf::from(env!("CARGO_MANIFEST_DIR")).join("../rounds")
 }
 
-/// The lawful rounds of the folder that are narrow, with their names.
+/// The lawful rounds of the folder that are narrow and without step lists, with their names.
 pub fn worked() -> Vec<(String, Round)> {
     let mut rounds: Vec<(String, Round)> = fs::read_dir(folder())
         .expect("the rounds stand beside this package")
@@ -19,7 +19,7 @@ pub fn worked() -> Vec<(String, Round)> {
         .filter_map(|path| {
             let name = path.file_stem()?.to_str()?.to_string();
             let round = read(&fs::read(path).ok()?).ok()?;
-            (round.form == Form::Narrow).then_some((name, round))
+            (round.form == Form::Narrow && round.policy < 2).then_some((name, round))
         })
         .collect();
     rounds.sort_by(|one, other| one.0.cmp(&other.0));

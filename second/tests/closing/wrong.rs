@@ -12,27 +12,29 @@ fn place(merit: &[usize], one: &Taken) -> usize {
 }
 
 /// For each step, a place made from those it took in its fill by merit, in order of candidates, 0 if nobody.
-fn of_the_fill(taken: &[Taken], made: impl Fn(&[Taken]) -> usize) -> [usize; 6] {
-    std::array::from_fn(|step| {
+fn of_the_fill(taken: &[Taken], made: impl Fn(&[Taken]) -> usize) -> Vec<usize> {
+    let closing = |step: usize| {
         let filled: Vec<Taken> = taken
             .iter()
             .copied()
-            .filter(|one| usize::from(one.step) == step + 1 && one.way == Way::ByMerit)
+            .filter(|one| usize::from(one.step) == step && one.way == Way::ByMerit)
             .collect();
         if filled.is_empty() {
             0
         } else {
             made(&filled)
         }
-    })
+    };
+    (1..=6).map(closing).collect()
 }
 
 /// Counts those taken for use too.
 pub struct UseCounted;
 
 impl Rule for UseCounted {
-    fn closing(&self, merit: &[usize], taken: &[Taken]) -> [usize; 6] {
-        let mut places = [0; 6];
+    fn closing(&self, round: &Round, institute: usize, taken: &[Taken]) -> Vec<usize> {
+        let merit = &round.merit[institute];
+        let mut places = vec![0; 6];
         for one in taken {
             let closing = &mut places[usize::from(one.step) - 1];
             *closing = place(merit, one).max(*closing);
@@ -45,7 +47,8 @@ impl Rule for UseCounted {
 pub struct SmallestPlace;
 
 impl Rule for SmallestPlace {
-    fn closing(&self, merit: &[usize], taken: &[Taken]) -> [usize; 6] {
+    fn closing(&self, round: &Round, institute: usize, taken: &[Taken]) -> Vec<usize> {
+        let merit = &round.merit[institute];
         of_the_fill(taken, |filled| {
             let places = filled.iter().map(|one| place(merit, one));
             places.min().unwrap_or(0)
@@ -57,7 +60,8 @@ impl Rule for SmallestPlace {
 pub struct LastByNumber;
 
 impl Rule for LastByNumber {
-    fn closing(&self, merit: &[usize], taken: &[Taken]) -> [usize; 6] {
+    fn closing(&self, round: &Round, institute: usize, taken: &[Taken]) -> Vec<usize> {
+        let merit = &round.merit[institute];
         of_the_fill(taken, |filled| {
             filled.last().map_or(0, |one| place(merit, one))
         })

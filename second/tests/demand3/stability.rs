@@ -1,26 +1,30 @@
 //! Stability in the words of demand 3, about a round and a list.
 
-use second::choice::{category_of, Offer, Rule, Taken};
+use second::choice::{Offer, Rule, Taken};
 use second::offers::Seat;
 use second::reading::{Entry, Round};
 
-/// The entry a seat stands for.
-fn entry_of(seat: Seat) -> Entry {
-    Entry {
-        institute: seat.institute,
-        category: category_of(seat.step),
+/// The category of the step of a seat, if its institute has that step.
+fn category_of(round: &Round, seat: Seat) -> Option<u8> {
+    let place = usize::from(seat.step).checked_sub(1)?;
+    match round.policy {
+        2 => {
+            let steps = &round.institutes[seat.institute].steps;
+            steps.get(place).map(|step| step.category)
+        }
+        _ => [0, 1, 2, 3, 4, 0].get(place).copied(),
     }
 }
 
 /// The place of a seat in a row: that of its entry, below all entries where there is none, below that where the entry is not in the row.
-pub fn rank(row: &[Entry], seat: Option<Seat>) -> usize {
-    match seat {
-        None => row.len(),
-        Some(seat) => row
-            .iter()
-            .position(|&entry| entry == entry_of(seat))
-            .unwrap_or(row.len() + 1),
-    }
+pub fn rank(round: &Round, row: &[Entry], seat: Option<Seat>) -> usize {
+    let Some(seat) = seat else {
+        return row.len();
+    };
+    let stands_for = |entry: &Entry| {
+        entry.institute == seat.institute && category_of(round, seat) == Some(entry.category)
+    };
+    row.iter().position(stands_for).unwrap_or(row.len() + 1)
 }
 
 /// The offers an institute might get: each candidate with each entry of the row that names it.
@@ -69,11 +73,11 @@ fn steps_of(taken: &[Taken]) -> Vec<(Offer, u8)> {
 }
 
 /// The seats an institute gave, as offers with their steps.
-fn given(seats: &[Option<Seat>], institute: usize) -> Vec<(Offer, u8)> {
+fn given(round: &Round, seats: &[Option<Seat>], institute: usize) -> Vec<(Offer, u8)> {
     let mut given = Vec::new();
     for (candidate, seat) in seats.iter().enumerate() {
         if let Some(seat) = seat.filter(|seat| seat.institute == institute) {
-            let category = category_of(seat.step);
+            let category = category_of(round, seat).expect("a seat in the row");
             let offer = Offer {
                 candidate,
                 category,
@@ -91,7 +95,7 @@ fn ranks_below(round: &Round, institute: usize, offer: Offer, seats: &[Option<Se
         .iter()
         .position(|entry| entry.institute == institute && entry.category == offer.category);
     match (offered, seats[offer.candidate]) {
-        (Some(offered), Some(seat)) => offered > rank(row, Some(seat)),
+        (Some(offered), Some(seat)) => offered > rank(round, row, Some(seat)),
         _ => false,
     }
 }
@@ -104,12 +108,12 @@ pub fn unstable<R: Rule + ?Sized>(
 ) -> Option<String> {
     for (candidate, &seat) in seats.iter().enumerate() {
         let row = &round.candidates[candidate].row;
-        if seat.is_some() && rank(row, seat) >= row.len() {
+        if seat.is_some() && rank(round, row, seat) >= row.len() {
             return Some("a seat not listed".to_string());
         }
     }
     for institute in 0..round.institutes.len() {
-        let given = given(seats, institute);
+        let given = given(round, seats, institute);
         let own: Vec<Offer> = given.iter().map(|&(offer, _)| offer).collect();
         if steps_of(&rule.choose(round, institute, &own)) != given {
             return Some("other seats from just those given".to_string());

@@ -29,12 +29,12 @@ fn other_rows(random: &mut Random, code: u8, institutes: usize) -> Vec<Vec<Entry
 pub fn truthful(round: &Round, list: Lister, random: &mut Random) -> Found {
     let first = list(round);
     for (number, candidate) in round.candidates.iter().enumerate() {
-        let own = rank(&candidate.row, first[number]);
+        let own = rank(round, &candidate.row, first[number]);
         for row in other_rows(random, candidate.code, round.institutes.len()) {
             let mut other = round.clone();
             other.candidates[number].row = row;
             let second = list(&other);
-            if rank(&candidate.row, second[number]) < own {
+            if rank(round, &candidate.row, second[number]) < own {
                 return Err(format!(
                     "candidate {} gains by {:?}: {round:?}",
                     number + 1,
@@ -168,18 +168,41 @@ pub fn completion_is_one<R: Rule + ?Sized>(round: &Round, rule: &R, random: &mut
     Ok(())
 }
 
-/// The choice is one: from any set of listed offers it takes offers of the set, at most one of each candidate, and no more at a step than its positions, those of step 6 being positions of step 4.
+/// Whether no step has more than its positions: those of step 6 are positions of step 4; those of a list are at most its own and what the steps that hand to it, one through another, had and did not take.
+fn fits(round: &Round, institute: usize, taken: &[Taken]) -> bool {
+    let own = &round.institutes[institute];
+    let at = |step: usize| {
+        let here = taken.iter().filter(|one| usize::from(one.step) == step);
+        here.count()
+    };
+    if round.policy != 2 {
+        return (1..=5).all(|step| at(step) <= own.positions[step - 1])
+            && at(4) + at(6) <= own.positions[usize::from(OBC)];
+    }
+    let reaches = |mut from: usize, to: usize| {
+        while from != 0 && from != to {
+            from = usize::from(own.steps[from - 1].receiver);
+        }
+        from == to
+    };
+    (1..=own.steps.len()).all(|step| {
+        let before = (1..=step).filter(|&other| reaches(other, step));
+        let (had, took) = before.fold((0, 0), |(had, took), other| {
+            (had + own.steps[other - 1].positions, took + at(other))
+        });
+        took <= had
+    })
+}
+
+/// The choice is one: from any set of listed offers it takes offers of the set, at most one of each candidate, and no more at a step than its positions.
 pub fn choice_is_one<R: Rule + ?Sized>(round: &Round, rule: &R, random: &mut Random) -> Found {
     for institute in 0..round.institutes.len() {
         let all = lawful_offers(round, institute, random);
-        let positions = &round.institutes[institute].positions;
         for bits in 0..1usize << all.len() {
             let set = subset(&all, bits);
             let taken = rule.choose(round, institute, &set);
             let offers = offers_of(&taken);
-            let at = |step: u8| taken.iter().filter(|one| one.step == step).count();
-            let fits = (1..=5).all(|step| at(step) <= positions[usize::from(step) - 1])
-                && at(4) + at(6) <= positions[usize::from(OBC)];
+            let fits = fits(round, institute, &taken);
             if twice(&offers) || !fits || !offers.iter().all(|offer| set.contains(offer)) {
                 return Err(format!("{taken:?} from {set:?}: {round:?}"));
             }

@@ -51,6 +51,7 @@ fn brought_back() -> Round {
     let institute = |positions: usize, second: usize| Institute {
         positions: [positions, 0, 0, 0, 0],
         reserved: std::array::from_fn(|category| vec![0, if category == 0 { second } else { 0 }]),
+        steps: Vec::new(),
     };
     let candidate = |marks: u8, entries: usize| Candidate {
         code: OPEN,
@@ -80,6 +81,7 @@ fn all_open(random: &mut Random) -> Round {
         let mut institute = Institute {
             positions: [positions, 0, 0, 0, 0],
             reserved: std::array::from_fn(|_| vec![0; 2]),
+            steps: Vec::new(),
         };
         institute.reserved[0][random.from_to(0, 1)] = random.from_to(0, positions);
         institutes.push(institute);
@@ -157,6 +159,7 @@ fn some_institute(random: &mut Random, types: usize, codes: &[u8], left: &mut us
     let mut institute = Institute {
         positions: [0; 5],
         reserved: std::array::from_fn(|_| vec![0; types]),
+        steps: Vec::new(),
     };
     for category in 0..5 {
         if category != 0 && !codes.contains(&(category as u8)) {

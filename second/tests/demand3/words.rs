@@ -8,16 +8,10 @@ pub struct Words;
 
 impl Rule for Words {
     fn choose(&self, round: &Round, institute: usize, offers: &[Offer]) -> Vec<Taken> {
-        let own = &round.institutes[institute];
         let mut taken: Vec<Taken> = Vec::new();
-        for (step, category) in [(1, 0), (2, 1), (3, 2), (4, 3), (5, 4), (6, 0)] {
-            let (mut positions, mut reserved) =
-                (own.positions[category], own.reserved[category].clone());
-            if step == 6 {
-                let vacant = own.positions[3] - taken.iter().filter(|one| one.step == 4).count();
-                positions = if round.policy == 1 { vacant } else { 0 };
-                reserved.fill(0);
-            }
+        for (step, category) in categories(round, institute) {
+            let at = |step: u8| taken.iter().filter(|one| one.step == step).count();
+            let (positions, reserved) = positions(round, institute, step, &at);
             let counts = |candidate: &usize| {
                 let offer = Offer {
                     candidate: *candidate,
@@ -68,6 +62,42 @@ impl Rule for Words {
         }
         taken.sort();
         taken
+    }
+}
+
+/// The numbers and categories of an institute's steps.
+fn categories(round: &Round, institute: usize) -> Vec<(u8, usize)> {
+    match round.policy {
+        2 => {
+            let steps = round.institutes[institute].steps.iter();
+            let categories = steps.map(|step| usize::from(step.category));
+            (1..).zip(categories).collect()
+        }
+        _ => vec![(1, 0), (2, 1), (3, 2), (4, 3), (5, 4), (6, 0)],
+    }
+}
+
+/// The positions of a step, handed ones included, and its reserved ones, from how many the steps before it took.
+fn positions(
+    round: &Round,
+    institute: usize,
+    step: u8,
+    at: &dyn Fn(u8) -> usize,
+) -> (usize, Vec<usize>) {
+    let own = &round.institutes[institute];
+    let place = usize::from(step) - 1;
+    if round.policy == 2 {
+        let mut positions = own.steps[place].positions;
+        for earlier in (1..step).filter(|&one| own.steps[usize::from(one) - 1].receiver == step) {
+            positions += self::positions(round, institute, earlier, at).0 - at(earlier);
+        }
+        (positions, own.steps[place].reserved.clone())
+    } else if step == 6 {
+        let vacant = own.positions[3] - at(4);
+        let positions = if round.policy == 1 { vacant } else { 0 };
+        (positions, vec![0; round.types])
+    } else {
+        (own.positions[place], own.reserved[place].clone())
     }
 }
 

@@ -27,7 +27,7 @@ impl Rule for NeverMoved {
 pub struct PositionsKept;
 
 impl Rule for PositionsKept {
-    fn dereserved(&self, positions: usize, _taken: usize) -> usize {
+    fn vacancies(&self, positions: usize, _taken: usize) -> usize {
         positions
     }
 }
@@ -76,7 +76,7 @@ fn fitting(reserved: &[usize], positions: usize) -> Vec<usize> {
 struct KeepsSome(usize);
 
 impl Rule for KeepsSome {
-    fn dereserved(&self, positions: usize, taken: usize) -> usize {
+    fn vacancies(&self, positions: usize, taken: usize) -> usize {
         positions - taken + self.0
     }
 }

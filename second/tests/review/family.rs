@@ -30,6 +30,7 @@ fn institutes(types: usize) -> Vec<Institute> {
         let mut institute = Institute {
             positions: [0; 5],
             reserved: std::array::from_fn(|_| vec![0; types]),
+            steps: Vec::new(),
         };
         for (category, kind) in [(OPEN, open), (OBC, obc)] {
             institute.positions[usize::from(category)] = kind.min(1);

@@ -6,6 +6,7 @@ use second::reading::{Entry, Round};
 use second::Review;
 
 /// A way of going over a list.
+#[allow(dead_code)]
 #[derive(Clone, Copy, Debug, PartialEq, Eq)]
 pub enum Look {
     /// That of the document.
@@ -40,9 +41,15 @@ pub enum Look {
     ReadAsNone,
     /// 0 0 is a seat outside the row.
     NoneAtFault,
+    /// Steps have the categories of document 01 also where they are listed.
+    FixedCategories,
+    /// The steps of all institutes are those that the first one lists.
+    ListOfFirst,
+    /// A step beyond the list, up to step 12, stands for the open entry.
+    BeyondAsOpen,
 }
 
-/// The categories of steps 1 to 6.
+/// The categories of steps 1 to 6 where they are not listed.
 const CATEGORIES: [u8; 6] = [0, 1, 2, 3, 4, 0];
 
 /// A list that is gone over in a way.
@@ -65,14 +72,31 @@ impl<R: Rule> Over<'_, R> {
         }
     }
 
+    /// The category of a step of an institute.
+    fn category(&self, institute: usize, step: u8) -> Option<u8> {
+        let place = usize::from(step).checked_sub(1)?;
+        if self.round.policy < 2 || self.look == Look::FixedCategories {
+            return CATEGORIES.get(place).copied();
+        }
+        let own = match self.look {
+            Look::ListOfFirst => 0,
+            _ => institute,
+        };
+        let steps = &self.round.institutes[own].steps;
+        match self.look {
+            Look::BeyondAsOpen if (steps.len()..12).contains(&place) => Some(0),
+            _ => steps.get(place).map(|step| step.category),
+        }
+    }
+
     /// The entry that the bytes of a candidate stand for, in the row or not.
     fn entry(&self, who: usize) -> Option<Entry> {
         let (institute, step, behind) = self.bytes(who);
-        let category = *CATEGORIES.get(usize::from(step).checked_sub(1)?)?;
         let institute = usize::from(institute).checked_sub(1)?;
         let none_at_6 = self.look == Look::NoStep6 && self.round.policy == 0 && step == 6;
         let there = institute < self.round.institutes.len() && behind == 0 && !none_at_6;
-        there.then_some(Entry {
+        let category = there.then(|| self.category(institute, step))??;
+        Some(Entry {
             institute,
             category,
         })

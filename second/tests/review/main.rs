@@ -272,7 +272,7 @@ fn changed_lists_of_larger_rounds_are_answered_as_the_tests_own_review_does() {
 #[test]
 fn worked_lists_are_answered_as_expected() {
     let cases = cases();
-    assert_eq!(cases.len(), 26);
+    assert_eq!(cases.len(), 35);
     for case in cases {
         let line = print_review(&case.file, &case.list);
         assert_eq!(line, case.expected, "{}", case.name);

@@ -36,6 +36,7 @@ fn some_institute(random: &mut Random, types: usize) -> Institute {
     let mut institute = Institute {
         positions: [0; 5],
         reserved: std::array::from_fn(|_| vec![0; types]),
+        steps: Vec::new(),
     };
     for (category, least) in [(OPEN, 2), (OBC, 1)] {
         let category = usize::from(category);

@@ -2,9 +2,11 @@
 
 use second::form::Form;
 use second::reading::{Candidate, Entry, Institute, Refusal, Round};
+use second::steps::ListedStep;
 use std::collections::HashSet;
 
 /// A way of reading round files.
+#[allow(dead_code)]
 #[derive(Clone, Copy, Debug, PartialEq, Eq)]
 pub enum Way {
     /// That of the documents.
@@ -33,6 +35,40 @@ pub enum Way {
     AnyLength,
     /// A head of kind 6 passes for one of kind 5.
     HeadOfKind6,
+    /// Policy 3 passes and is read as policy 2.
+    Policy3,
+    /// Records of kind 2 pass under policy 2 too.
+    EitherInstitute,
+    /// Records of kind 7 are due under every policy.
+    AlwaysLists,
+    /// A list of thirteen steps passes.
+    OneStepMore,
+    /// A list without steps passes.
+    NoSteps,
+    /// Question 6 counts the positions that would be handed on, too.
+    HandedAtSix,
+    /// Question 7 is put to the sums over the list.
+    SummedAtSeven,
+    /// Question 7 counts the positions that could be handed to a step, too.
+    HandedAtSeven,
+    /// A category of 5 passes.
+    Category5,
+    /// A step may hand to itself.
+    ToItself,
+    /// A step may hand to an earlier one.
+    ToEarlier,
+    /// A step may hand to one beyond the list, up to step 12.
+    BeyondTheList,
+    /// The last step has to name a step, and 0 is refused elsewhere too.
+    NobodyRefused,
+    /// Receivers are looked at before categories.
+    ReceiversFirst,
+    /// Categories and receivers are looked at before the sums.
+    BytesFirst,
+    /// All questions are put to one step after another.
+    StepByStep,
+    /// The receiver's byte comes before the category's.
+    BytesTurned,
 }
 
 /// A file that is read in a way, the place reached, and whether the head tells the wide form.
@@ -107,12 +143,125 @@ impl Reading<'_> {
         let (here, kind, body) = self.record(kinds, |_, length| length == 8)?;
         self.wide = kind != 1;
         let head = numbers(&body);
-        let most = [512, self.most_institutes(), 8, 1];
+        let most = [512, self.most_institutes(), 8, self.most_policy()];
         let in_range = (0..4).all(|place| head[place] <= most[place]);
         if !in_range || head[0] == 0 || head[1] == 0 {
             return no(5, here);
         }
         Ok(head)
+    }
+
+    /// The largest policy that passes.
+    fn most_policy(&self) -> usize {
+        match self.way {
+            Way::Policy3 => 3,
+            _ => 2,
+        }
+    }
+
+    /// Whether the next institute is read as a list.
+    fn is_list(&self, policy: usize) -> bool {
+        match self.way {
+            Way::AlwaysLists => true,
+            Way::EitherInstitute => policy >= 2 && self.file.get(self.at + 2) != Some(&2),
+            _ => policy >= 2,
+        }
+    }
+
+    /// The next institute under policy 2.
+    fn list(&mut self, types: usize) -> Result<Institute, Refusal> {
+        let part = 4 + 2 * types;
+        let (least, most) = match self.way {
+            Way::OneStepMore => (1, 13),
+            Way::NoSteps => (0, 12),
+            _ => (1, 12),
+        };
+        let lawful = |_, length| (least..=most).any(|count| length == count * part);
+        let (here, _, body) = self.record(&[7], lawful)?;
+        let turned = self.way == Way::BytesTurned;
+        let steps: Vec<ListedStep> = body
+            .chunks_exact(part)
+            .map(|bytes| ListedStep {
+                category: bytes[usize::from(turned)],
+                receiver: bytes[usize::from(!turned)],
+                positions: numbers(&bytes[2..4])[0],
+                reserved: numbers(&bytes[4..]),
+            })
+            .collect();
+        match self.fault(&steps) {
+            Some(number) => no(number, here),
+            None => Ok(Institute {
+                steps,
+                ..Institute::default()
+            }),
+        }
+    }
+
+    /// The number by which a list is refused, if it is.
+    fn fault(&self, steps: &[ListedStep]) -> Option<u8> {
+        let order: [u8; 4] = match self.way {
+            Way::ReceiversFirst => [6, 7, 18, 17],
+            Way::BytesFirst => [17, 18, 6, 7],
+            _ => [6, 7, 17, 18],
+        };
+        let all = 0..steps.len();
+        let faulty = |number: u8, place: usize| match number {
+            6 => self.too_many(steps),
+            7 => self.over_reserved(steps, place),
+            17 => steps[place].category > if self.way == Way::Category5 { 5 } else { 4 },
+            _ => self.wrong_receiver(steps, place),
+        };
+        if self.way == Way::StepByStep {
+            let mut asked = all.flat_map(|place| order.map(|number| (number, place)));
+            return asked
+                .find(|&(number, place)| faulty(number, place))
+                .map(|(number, _)| number);
+        }
+        order
+            .into_iter()
+            .find(|&number| all.clone().any(|place| faulty(number, place)))
+    }
+
+    /// Whether the positions of a list are more than 1,024.
+    fn too_many(&self, steps: &[ListedStep]) -> bool {
+        let handed = |place: usize| match self.way {
+            Way::HandedAtSix => could_get(steps, place),
+            _ => 0,
+        };
+        let all = (0..steps.len()).map(|place| steps[place].positions + handed(place));
+        all.sum::<usize>() > 1024
+    }
+
+    /// Whether a step has more reserved positions than positions.
+    fn over_reserved(&self, steps: &[ListedStep], place: usize) -> bool {
+        let reserved = |step: &ListedStep| step.reserved.iter().sum::<usize>();
+        let own = &steps[place];
+        match self.way {
+            Way::SummedAtSeven => {
+                let positions: usize = steps.iter().map(|step| step.positions).sum();
+                steps.iter().map(reserved).sum::<usize>() > positions
+            }
+            Way::HandedAtSeven => reserved(own) > own.positions + could_get(steps, place),
+            _ => reserved(own) > own.positions,
+        }
+    }
+
+    /// Whether a step hands to one that cannot get its vacancies.
+    fn wrong_receiver(&self, steps: &[ListedStep], place: usize) -> bool {
+        let (own, receiver) = (place + 1, usize::from(steps[place].receiver));
+        let most = match self.way {
+            Way::BeyondTheList => 12,
+            _ => steps.len(),
+        };
+        let least = match self.way {
+            Way::ToItself => own,
+            Way::ToEarlier => 1,
+            _ => own + 1,
+        };
+        match receiver {
+            0 => self.way == Way::NobodyRefused,
+            _ => !(least..=most).contains(&receiver),
+        }
     }
 
     /// The next institute.
@@ -131,6 +280,7 @@ impl Reading<'_> {
         Ok(Institute {
             positions,
             reserved,
+            steps: Vec::new(),
         })
     }
 
@@ -220,6 +370,14 @@ impl Reading<'_> {
     }
 }
 
+/// The most positions that the steps before a place could hand to its step, one through another.
+fn could_get(steps: &[ListedStep], place: usize) -> usize {
+    (0..place)
+        .filter(|&other| usize::from(steps[other].receiver) == place + 1)
+        .map(|other| steps[other].positions + could_get(steps, other))
+        .sum()
+}
+
 /// What a file says, or its refusal, read in a way.
 pub fn read_by(way: Way, file: &[u8]) -> Result<Round, Refusal> {
     let (at, wide) = (0, false);
@@ -231,7 +389,11 @@ pub fn read_by(way: Way, file: &[u8]) -> Result<Round, Refusal> {
     };
     let head = reading.head()?;
     let (n, m, types) = (head[0], head[1], head[2]);
-    let institutes = (0..m).map(|_| reading.institute(types));
+    let policy = head[3].min(2);
+    let institutes = (0..m).map(|_| match reading.is_list(policy) {
+        true => reading.list(types),
+        false => reading.institute(types),
+    });
     let institutes = institutes.collect::<Result<_, _>>()?;
     let candidates = (0..n).map(|_| reading.candidate(m, types));
     let candidates = candidates.collect::<Result<_, _>>()?;
@@ -247,7 +409,7 @@ pub fn read_by(way: Way, file: &[u8]) -> Result<Round, Refusal> {
     Ok(Round {
         form,
         types,
-        policy: head[3] as u16,
+        policy: policy as u16,
         institutes,
         candidates,
         merit,

@@ -19,6 +19,7 @@ pub fn spread(round: &Round) -> Round {
     let none = Institute {
         positions: [0; 5],
         reserved: std::array::from_fn(|_| vec![0; round.types]),
+        steps: Vec::new(),
     };
     let mut wide = Round {
         form: Form::Wide,
@@ -53,9 +54,9 @@ pub fn gathered(round: &Round, seat: Seat) -> Seat {
 #[allow(dead_code)]
 pub fn spread_allotment(round: &Round, allotment: Allotment) -> Allotment {
     let apart = apart(round);
-    let mut closing = vec![[0; 6]; (round.institutes.len() - 1) * apart + 1];
+    let mut closing = vec![vec![0; 6]; (round.institutes.len() - 1) * apart + 1];
     for (number, places) in allotment.closing.iter().enumerate() {
-        closing[number * apart] = *places;
+        closing[number * apart] = places.clone();
     }
     let seats = allotment.seats.iter().map(|seat| {
         seat.map(|seat| Seat {

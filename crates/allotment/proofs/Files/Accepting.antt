@@ -87,7 +87,7 @@ module _ (file answer work : List ℕ) (accepted : Accepted file answer work) wh
   seat-after i l = rw (answer-written file answer work (accepted .0) (accepted .1)) (seat-stands (formOf file) (roundOf file) accepted-sound _ i l)
 
   pub type-after : (i : ℕ) → i < candidateCount (roundOf file)
-      → typeStanding (formOf file) (candidateCount (roundOf file)) (instituteCount (roundOf file)) (answerAfter file answer work) i ≡ getD (typesUsed (roundOf file)) i 0
+      → typeStanding (formOf file) (roundOf file .stepsListed) (candidateCount (roundOf file)) (instituteCount (roundOf file)) (answerAfter file answer work) i ≡ getD (typesUsed (roundOf file)) i 0
   type-after i l = rw (answer-written file answer work (accepted .0) (accepted .1)) (type-stands (formOf file) (roundOf file) _ i l)
 
   pub seats-after : seatsIn (formOf file) (candidateCount (roundOf file)) (answerAfter file answer work) ≡ seats (roundOf file)

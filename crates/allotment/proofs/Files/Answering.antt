@@ -1,6 +1,7 @@
 -- The answer area after the seats, the closing places and the types are put in, where arrays hold the list of the round and the types used.
 use Prim.Native.Nat.{ℕ, _+_, _*_, _≤_, _<_}
-use mathlib.Core.Path.{_≡_, refl, sym, ap, _∙_}
+use mathlib.Core.Path.{_≡_, sym, ap, _∙_}
+use mathlib.Core.Bool.{Bool}
 use mathlib.Core.List.{List, _++_}
 use native.Mathlib.Omega.{arith}
 use lib.ListN.{length, getD, drop, length-append}
@@ -10,14 +11,15 @@ use Rattle.round.specs.declared.form.Form.{Form}
 use Rattle.round.specs.Form.{seatWidth}
 use Rattle.round.specs.Round.{Round}
 use Rattle.round.specs.declared.head.Head.{Head as CodeHead}
-use Rattle.round.specs.Records.{Head, formOf, headOf}
+use Rattle.round.specs.Records.{Head, formOf, headOf, ownSteps}
+use Rattle.round.specs.Read.{asHead}
 use Rattle.round.specs.Reading.{roundOf}
 use Rattle.round.proofs.Words.{length-tabulate}
 use Rattle.round.proofs.Joined.{sets-append, sets-front}
 use Rattle.round.proofs.Passed.{passed}
-use Rattle.round.proofs.Sound.{sound, head-fits, length-institutes}
+use Rattle.round.proofs.Sound.{sound, head-fits, length-institutes, listed-round}
 use Rattle.offers.specs.Process.{Seat, noSeat, candidateCount, instituteCount, seats}
-use Rattle.allotment.specs.Areas.{closingBytes, answerBytes, answerSize}
+use Rattle.allotment.specs.Areas.{closingWidth, closingBytes, answerBytes, answerSize}
 use Rattle.offers.specs.Held.{HeldIn}
 use Rattle.allotment.specs.Writing.{seatHeld, seatsHeld, heldBytes, HoldersFew, AnswerKnown}
 use Rattle.offers.proofs.Rounds.Bounds.{list-length}
@@ -81,42 +83,49 @@ module _ {file : List ℕ} {h : CodeHead} {merits holders steps types : List ℕ
   types-many : length types ≡ candidateCount r
   types-many = ap length (known .closing .typed) ∙ types-length r
 
-  length-closings : length (joined (tabulate (h .institutes) (closingBytes r))) ≡ 12 * h .institutes
-  length-closings = length-pieces 12 (closingBytes r) (length-closing r) (h .institutes)
+  -- whether the institutes list their own steps, as the head has it
+  pub listed-known : ownSteps (asHead h) ≡ r .stepsListed
+  listed-known = ap (λ (h : Head). ownSteps h) (known .head) ∙ sym (listed-round file)
+
+  abbrev width : ℕ
+  width = closingWidth (r .stepsListed)
+
+  length-closings : length (joined (tabulate (h .institutes) (closingBytes r))) ≡ width * h .institutes
+  length-closings = length-pieces width (closingBytes r) (length-closing r) (h .institutes)
 
   -- the seats, behind them the closing places, and behind these the types
-  size-known : answerSize (formOf file) r ≡ seatWidth (h .form) * length holders + (12 * h .institutes + length types)
-  size-known = rw (form-known, ← many, ← institutes-many, types-many) (rw (← many) (size-parts (h .form) (length holders) (h .institutes)))
+  size-known : answerSize (formOf file) r ≡ seatWidth (h .form) * length holders + (width * h .institutes + length types)
+  size-known = rw (form-known, ← many, ← institutes-many, types-many) (rw (← many) (size-parts (h .form) (r .stepsListed) (length holders) (h .institutes)))
 
   -- there is room for each
   pub seats-room : {size : ℕ} → answerSize (formOf file) r ≤ size → seatWidth (h .form) * length holders ≤ size
   seats-room l = omega (arith, size-known)
 
   module _ {behind : ℕ} (seated : behind ≡ seatWidth (h .form) * length holders) where
-    pub closings-room : {size after : ℕ} → after ≡ size → answerSize (formOf file) r ≤ size → behind + 12 * h .institutes ≤ after
-    closings-room e l = omega (arith, seated, size-known)
+    pub closings-room : {size after : ℕ} → after ≡ size → answerSize (formOf file) r ≤ size → behind + closingWidth (ownSteps (asHead h)) * h .institutes ≤ after
+    closings-room e l = rw listed-known (omega (arith, seated, size-known))
 
-    pub types-room : {size mid after : ℕ} → mid ≡ size → after ≡ mid → answerSize (formOf file) r ≤ size
-        → behind + 12 * h .institutes + length types ≤ after
-    types-room e f l = omega (arith, seated, size-known)
+    pub types-room : {listed : Bool} {size mid after w : ℕ} → listed ≡ ownSteps (asHead h) → w ≡ closingWidth listed → mid ≡ size → after ≡ mid → answerSize (formOf file) r ≤ size
+        → behind + w * h .institutes + length types ≤ after
+    types-room flag wide e f l = rw (wide, flag, listed-known) (omega (arith, seated, size-known))
 
   -- the three parts together
   parts : heldBytes (h .form) holders steps ++ joined (tabulate (h .institutes) (closingBytes r)) ++ types ≡ answerBytes (formOf file) r
   unfolding heldBytes answerBytes
   parts = rw (form-known, held-one (seats r) holders steps (known .closing .list), many, institutes-many, known .closing .typed)
 
-  pub answer-put : (area : List ℕ) {seated closed now : List ℕ} {behind-seats : ℕ} → answerSize (formOf file) r ≤ length area
+  pub answer-put : (area : List ℕ) {seated closed now : List ℕ} {behind-seats w : ℕ} {listed : Bool} → listed ≡ ownSteps (asHead h) → w ≡ closingWidth listed → answerSize (formOf file) r ≤ length area
       → behind-seats ≡ seatWidth (h .form) * length holders
       → seated ≡ sets area 0 (heldBytes (h .form) holders steps)
       → closed ≡ sets seated behind-seats (joined (tabulate (h .institutes) (closingBytes r)))
-      → now ≡ sets closed (behind-seats + 12 * h .institutes) types
+      → now ≡ sets closed (behind-seats + w * h .institutes) types
       → now ≡ answerBytes (formOf file) r ++ drop (answerSize (formOf file) r) area
-  answer-put area {seated} {closed} {now} {behind-seats} room size first second third =
+  answer-put area {seated} {closed} {now} {behind-seats} {w} {listed} flag wide room size first second third =
       let closings : List ℕ = joined (tabulate (h .institutes) (closingBytes r)) in
       let held : List ℕ = heldBytes (h .form) holders steps in
       let at : 0 + length held ≡ behind-seats = omega (arith, size, length-held (h .form) holders steps) in
-      let behind : 0 + length (held ++ closings) ≡ behind-seats + 12 * h .institutes =
-      omega (arith, size, length-append held closings, length-held (h .form) holders steps, length-closings) in
+      let behind : 0 + length (held ++ closings) ≡ behind-seats + w * h .institutes =
+      rw (wide, flag, listed-known) (omega (arith, size, length-append held closings, length-held (h .form) holders steps, length-closings)) in
       let two : closed ≡ sets area 0 (held ++ closings) = second ∙ rw (first, ← at) (sets-append area 0 held _) in
       third
       ∙ (rw (two, ← behind) (sets-append area 0 (held ++ closings) types ∙ ap (λ (bytes : List ℕ). sets area 0 bytes) parts)

@@ -33,7 +33,7 @@ use Rattle.offers.proofs.Rounds.Agreed.{merit-marks, step-number}
 use Rattle.offers.proofs.Rounds.Process.{tried-running}
 use Rattle.offers.proofs.Rounds.Given.{step-given}
 use Rattle.offers.proofs.Rounds.AccountRound.{merit-seated, used-typed, types-seated, types-length}
-use Rattle.allotment.specs.Areas.{closingPlaces}
+use Rattle.allotment.specs.Areas.{placesTo}
 use Rattle.allotment.specs.Writing.{seatHeld, seatsHeld, meritStep, withPlace, ClosingKnown}
 
 -- the seat that two arrays hold for a candidate stands in the list that they hold
@@ -53,33 +53,38 @@ module _ (r : Round) (j k : ℕ) where
       closing-largest (stepAtEnd r j k) (length (instituteAt r j .merit))
       (omega (arith, merit-marks r j, merit-long (marksOn r j) (atPlaces r j (madeTo r (tried r) j)) (instituteAt r j .steps) k))
 
-  closing-at : k < 6 → getD (closingPlaces r j) k 0 ≡ greatest (length (instituteAt r j .merit)) (meritPlace (stepAtEnd r j k))
-  unfolding closingPlaces
-  closing-at l = tabulate-at 6 (λ k. closingPlace (stepAtEnd r j k)) 0 k l ∙ closing-all
+  -- of so many closing places, that of the step
+  place-at : (count : ℕ) → k < count → getD (placesTo count r j) k 0 ≡ closingPlace (stepAtEnd r j k)
+  unfolding placesTo
+  place-at count l = tabulate-at count (λ k. closingPlace (stepAtEnd r j k)) 0 k l
+
+  -- it does not depend on how many there are
+  pub place-alike : (count other : ℕ) → k < count → k < other → getD (placesTo count r j) k 0 ≡ getD (placesTo other r j) k 0
+  place-alike count other l m = place-at count l ∙ sym (place-at other m)
 
   -- a closing place is no larger than the merit list is long
-  pub closing-few : k < 6 → getD (closingPlaces r j) k 0 ≤ length (instituteAt r j .merit)
-  closing-few l = omega (arith, closing-at l, largest-few (stepAtEnd r j k) (length (instituteAt r j .merit)))
+  pub closing-few : (count : ℕ) → k < count → getD (placesTo count r j) k 0 ≤ length (instituteAt r j .merit)
+  closing-few count l = omega (arith, place-at count l, closing-all, largest-few (stepAtEnd r j k) (length (instituteAt r j .merit)))
 
 -- of each step the largest of the first p places that it seated by merit
 pub record ClosedTo (r : Round) (j p : ℕ) (places : List ℕ) : Type 0 where
-  pub six : length places ≡ 6
-  pub at : (k : ℕ) → k < 6 → getD places k 0 ≡ greatest p (meritPlace (stepAtEnd r j k))
+  pub twelve : length places ≡ 12
+  pub at : (k : ℕ) → k < 12 → getD places k 0 ≡ greatest p (meritPlace (stepAtEnd r j k))
 
 module _ (r : Round) (j : ℕ) where
-  pub none-closed : (places : List ℕ) → places ≡ replicate 6 0 → ClosedTo r j 0 places
+  pub none-closed : (places : List ℕ) → places ≡ replicate 12 0 → ClosedTo r j 0 places
   unfolding greatest
-  none-closed places e = rw e record { six = refl; at = λ k l. getD-zeros 6 k }
+  none-closed places e = rw e record { twelve = refl; at = λ k l. getD-zeros 12 k }
 
   pub all-closed : {count p : ℕ} {places : List ℕ} → count ≡ length (instituteAt r j .merit) → p ≤ count → count ≤ p → ClosedTo r j p places
-      → places ≡ closingPlaces r j
-  unfolding closingPlaces
+      → places ≡ placesTo 12 r j
+  unfolding placesTo
   all-closed {count} {p} {places} e l m c =
       let all : p ≡ length (instituteAt r j .merit) = omega arith in
-      ext-getD 0 places (closingPlaces r j) (c .six ∙ sym (length-tabulate 0 6 (λ k. closingPlace (stepAtEnd r j k))))
+      ext-getD 0 places (placesTo 12 r j) (c .twelve ∙ sym (length-tabulate 0 12 (λ k. closingPlace (stepAtEnd r j k))))
       (λ k b.
-      let inside : k < 6 = omega (arith, c .six) in
-      c .at k inside ∙ rw all (sym (closing-at r j k inside)))
+      let inside : k < 12 = omega (arith, c .twelve) in
+      c .at k inside ∙ rw all (sym (place-at r j k 12 inside ∙ closing-all r j k)))
 
   -- one place more, whose candidate the step with a number seated by merit, or none did
   one-closed : (step : ℕ) {p : ℕ} {places : List ℕ} → ((k : ℕ) → tookByMerit (stepAtEnd r j k) p ≡ eqb step (suc k)) → ClosedTo r j p places
@@ -89,7 +94,7 @@ module _ (r : Round) (j : ℕ) where
     where
       none : step ≡ 0 → ClosedTo r j (suc p) (withPlace step (suc p) places)
       none z = rw z record {
-        six = c .six;
+        twelve = c .twelve;
         at = λ k l.
             let out : tookByMerit (stepAtEnd r j k) p ≡ false = took k ∙ ne-eqb step (suc k) (λ s. omega arith) in
             c .at k l ∙ rw out (omega arith);
@@ -97,12 +102,12 @@ module _ (r : Round) (j : ℕ) where
 
       some : (step ≡ 0 → ⊥) → ClosedTo r j (suc p) (withPlace step (suc p) places)
       some d = rw (ne-eqb step 0 d) record {
-        six = length-set places (step - 1) _ ∙ c .six;
+        twelve = length-set places (step - 1) _ ∙ c .twelve;
         at = λ k l.
             sameOr step (suc k)
             (λ s.
             let at : step - 1 ≡ k = omega arith in
-            rw (at, getD-set-same places k (max (getD places k 0) (suc p)) 0 (omega (arith, c .six)), took k ∙ eq-eqb step (suc k) s)
+            rw (at, getD-set-same places k (max (getD places k 0) (suc p)) 0 (omega (arith, c .twelve)), took k ∙ eq-eqb step (suc k) s)
             (omega (arith, c .at k l)))
             (λ n.
             rw (getD-set-other places (step - 1) k (max (getD places (step - 1) 0) (suc p)) 0 (λ s. n (omega arith)), took k ∙ ne-eqb step (suc k) n)
@@ -191,7 +196,7 @@ module _ {file merits holders steps types : List ℕ} {j : ℕ} (known : Closing
         (λ e. rw (e, eq-eqb (suc j) (suc j) refl, typed-there e, used-typed lawful j inside c (omega (arith, place-there))) (without-type (typeFor r j (madeTo r (tried r) j) c) (getD steps c 0) (suc k) (λ z. omega arith)))
         (λ d. rw (ne-eqb (getD holders c 0) (suc j) d, ne-eqb 0 (suc k) (λ z. omega arith))))
 
-    few-there : meritStep holders steps types (suc j) (number - 1) ≤ 6
+    few-there : meritStep holders steps types (suc j) (number - 1) ≤ 12
     unfolding seats
     few-there =
         let c = number - 1 in
@@ -209,7 +214,7 @@ module _ {file merits holders steps types : List ℕ} {j : ℕ} (known : Closing
       told-there = told ∙ rw add-one
 
       pub step-few : {places : List ℕ} → ClosedTo (roundOf file) j p places → step ≤ length places
-      step-few c = omega (arith, told-there, few-there, c .six)
+      step-few c = omega (arith, told-there, few-there, c .twelve)
 
       -- the place is kept
       pub place-closed : {places places' : List ℕ} → ClosedTo (roundOf file) j p places → places' ≡ withPlace step (p + 1) places → ClosedTo (roundOf file) j (p + 1) places'

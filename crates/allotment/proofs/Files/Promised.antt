@@ -1,5 +1,5 @@
 -- The whole promise of a call from its answer and both areas: every sound round is stable and truthful, its process ends, any order of offers
--- ends alike, and its types are those of the first placings.
+-- ends alike, its types are those of the first placings, and the steps of policies 0 and 1, written as lists, seat everyone alike.
 use Prim.Native.Nat.{ℕ, _<_}
 use mathlib.Core.Path.{_≡_, sym, ap, _∙_}
 use mathlib.Core.List.{List}
@@ -21,7 +21,8 @@ use Rattle.allotment.specs.Outcome.{outcomeOf, outcome, answerAfter, wor
 use Rattle.allotment.specs.Truthful.{Truthful}
 use Rattle.allotment.specs.Types.{Published}
 use Rattle.allotment.specs.Promise.{Promise}
-use Rattle.allotment.proofs.Files.Accepting.{accepted-sound, seat-after, seats-after, type-after}
+use Rattle.allotment.proofs.Files.Accepting.{accepted-passes, accepted-sound, seat-after, seats-after, type-after}
+use Rattle.allotment.proofs.Files.AsLists.{alike-as-lists}
 use Rattle.allotment.proofs.Files.AlikeRounds.{same-count, inside, alike-rounds}
 
 truthful : (file answer work : List ℕ) → Accepted file answer work → Truthful file (answerAfter file answer work)
@@ -62,4 +63,5 @@ promised file answer work result answerNow workNow told seen cleared = record {
   process = λ accepted. at-end (accepted-sound file answer work accepted);
   anyOrder = λ accepted. any-order-ends (accepted-sound file answer work accepted);
   types = λ accepted. rw seen (published file answer work accepted);
+  asLists = λ accepted few. alike-as-lists file (accepted-passes file answer work accepted) few;
 }

@@ -1,6 +1,7 @@
 -- Pieces put into an area one after the other: all of them together are put in as one.
 use Prim.Native.Nat.{ℕ, suc, _+_, _*_, _<_, _≤_}
 use mathlib.Core.Path.{_≡_, refl, sym, ap, _∙_}
+use mathlib.Core.Bool.{Bool, true, false}
 use mathlib.Core.List.{List}
 use native.Mathlib.Omega.{arith}
 use native.Mathlib.Nat.{zero-add}
@@ -15,13 +16,13 @@ use Rattle.round.specs.Round.{Round}
 use Rattle.round.proofs.Words.{reached}
 use Rattle.round.proofs.Joined.{sets-append, joined-more}
 use Rattle.offers.specs.Process.{Seat, noSeat}
-use Rattle.allotment.specs.Areas.{closingPlaces, closingBytes}
+use Rattle.allotment.specs.Areas.{closingCount, closingWidth, placesTo, closingPlaces, closingBytes}
 use Rattle.offers.specs.Areas.{wordBytes, seatBytes}
 use Rattle.offers.proofs.SeatBytes.{seat-within}
 use Rattle.allotment.specs.Writing.{seatHeld, seatsHeld, heldBytes, HoldersFew}
 use Rattle.allotment.proofs.Files.Pieces.{length-pieces}
-use Rattle.allotment.proofs.Files.AreaSeats.{length-seat, length-closing}
-use Rattle.allotment.proofs.Files.Closing.{held-at}
+use Rattle.allotment.proofs.Files.AreaSeats.{length-seat, places-wide, length-closing}
+use Rattle.allotment.proofs.Files.Closing.{held-at, place-alike}
 
 -- one piece more
 pieces-more : (w : ℕ) (f : ℕ → List ℕ) → ((i : ℕ) → length (f i) ≡ w) → (area : List ℕ) (at n : ℕ) {now : List ℕ}
@@ -78,28 +79,50 @@ pub seats-put : (form : Form) (holders steps area : List ℕ) {i : ℕ} {now : L
 unfolding heldBytes
 seats-put form holders steps area l m e = reached (λ n. sets area 0 (joined (tabulate n (heldPieces form holders steps)))) l m (sym e)
 
+pub places-few : (listed : Bool) → closingCount listed ≤ 12
+unfolding closingCount
+places-few true = omega arith
+places-few false = omega arith
+
+-- their number, as code has found it
+pub count-is : (r : Round) {listed : Bool} {count : ℕ} → listed ≡ r .stepsListed → count ≡ closingCount listed → count ≡ closingCount (r .stepsListed)
+count-is r flag found = found ∙ ap closingCount flag
+
+module _ (listed : Bool) {count : ℕ} (found : count ≡ closingCount listed) where
+  pub count-few : count ≤ 12
+  count-few = omega (arith, found, places-few listed)
+
+  pub places-room : (at : ℕ) {size : ℕ} → at + closingWidth listed ≤ size → at + 2 * count ≤ size
+  places-room at l = omega (arith, places-wide listed, ap (λ n. 2 * n) found)
+
 -- the bytes of an institute's closing places, step by step
 abbrev pub closingPieces : Round → ℕ → ℕ → List ℕ
 closingPieces r j k = wordBytes (getD (closingPlaces r j) k 0)
 
 -- one closing place more
 pub closing-put : (r : Round) (j : ℕ) (area : List ℕ) (at k : ℕ) {before now places : List ℕ}
-    → before ≡ sets area at (joined (tabulate k (closingPieces r j))) → places ≡ closingPlaces r j
+    {count : ℕ} → count ≡ closingCount (r .stepsListed) → k < count → before ≡ sets area at (joined (tabulate k (closingPieces r j))) → places ≡ placesTo 12 r j
     → now ≡ sets before (at + 2 * k) (wordBytes (getD places k 0)) → now ≡ sets area at (joined (tabulate (k + 1) (closingPieces r j)))
-closing-put r j area at k {before} {now} {places} e f g =
-    g ∙ (ap (λ (l : List ℕ). sets before (at + 2 * k) (wordBytes (getD l k 0))) f ∙ pieces-more 2 (closingPieces r j) (λ k. refl) area at k e)
+closing-put r j area at k {before} {now} {places} {count} c l e f g =
+    let place : getD places k 0 ≡ getD (closingPlaces r j) k 0 =
+    ap (λ (l : List ℕ). getD l k 0) f ∙ place-alike r j k 12 (closingCount (r .stepsListed)) (omega (arith, places-few (r .stepsListed))) (omega (arith, c)) in
+    g ∙ (ap (λ (x : ℕ). sets before (at + 2 * k) (wordBytes x)) place ∙ pieces-more 2 (closingPieces r j) (λ k. refl) area at k e)
 
--- all six
-pub closings-put : (r : Round) (j : ℕ) (area : List ℕ) (at : ℕ) {k : ℕ} {now : List ℕ} → k ≤ 6 → 6 ≤ k
+-- all of them
+pub closings-put : (r : Round) (j : ℕ) (area : List ℕ) (at : ℕ) {k count : ℕ} {now : List ℕ} → count ≡ closingCount (r .stepsListed) → k ≤ count → count ≤ k
     → now ≡ sets area at (joined (tabulate k (closingPieces r j))) → now ≡ sets area at (closingBytes r j)
 unfolding closingBytes
-closings-put r j area at l m e = reached (λ n. sets area at (joined (tabulate n (closingPieces r j)))) l m (sym e)
+closings-put r j area at {k} {count} c l m e =
+    let all : k ≡ closingCount (r .stepsListed) = omega (arith, c) in
+    e ∙ ap (λ n. sets area at (joined (tabulate n (closingPieces r j)))) all
 
 -- one institute more
 pub institute-put : (r : Round) (area : List ℕ) (at j : ℕ) {before now : List ℕ}
-    → before ≡ sets area at (joined (tabulate j (closingBytes r))) → now ≡ sets before (at + 12 * j) (closingBytes r j)
+    {listed : Bool} {w : ℕ} → listed ≡ r .stepsListed → w ≡ closingWidth listed
+    → before ≡ sets area at (joined (tabulate j (closingBytes r))) → now ≡ sets before (at + w * j) (closingBytes r j)
     → now ≡ sets area at (joined (tabulate (j + 1) (closingBytes r)))
-institute-put r area at j e f = f ∙ pieces-more 12 (closingBytes r) (length-closing r) area at j e
+institute-put r area at j {before} {now} {listed} {w} flag wide e f =
+    f ∙ ap (λ (w : ℕ). sets before (at + w * j) (closingBytes r j)) (wide ∙ ap closingWidth flag) ∙ pieces-more (closingWidth (r .stepsListed)) (closingBytes r) (length-closing r) area at j e
 
 -- all of them
 pub institutes-put : (r : Round) (area : List ℕ) (at : ℕ) {j institutes : ℕ} {now : List ℕ} → j ≤ institutes → institutes ≤ j

@@ -58,7 +58,7 @@ module _ {types : ℕ} {r : Round} (sound : Sound types r) {tried : List ℕ} (r
       back t =
           let at = held-step sound run i j c hi hj t in
           ap (λ (x : Seat). eqb (x .institute) (suc j) && (isStep r x && sameCategory (categoryAt r j (x .step)) c)) (seat-held sound run i j c hi hj t)
-          ∙ rw (eq-eqb (suc j) (suc j) refl, is-step r j (stepIn r tried j i) hj (at .0) (omega (arith, step-number r j (madeTo r tried j) i, sound .institute j hj .steps-most)), at .1) (same-self c)
+          ∙ rw (eq-eqb (suc j) (suc j) refl, is-step r j (stepIn r tried j i) hj (at .0) (omega (arith, step-number r j (madeTo r tried j) i, sound .numbered j hj)), at .1) (same-self c)
 
   pub step-given : stepOf r (seatsAfter r tried) j i ≡ stepIn r tried j i
   unfolding stepOf

@@ -1,4 +1,4 @@
--- The numbers of a seat are small: its institute is one of the round, or 0, and its step is at most 6.
+-- The numbers of a seat are small: its institute is one of the round, or 0, and its step is at most 12.
 use mathlib.Core.Logic.{_⊎_, inl, inr}
 use Prim.Native.Nat.{ℕ, _<_, _≤_}
 use native.Mathlib.Omega.{arith}
@@ -11,11 +11,11 @@ use Rattle.offers.proofs.Rounds.Seats.{Seated, Unseated, seat-of}
 use Rattle.offers.proofs.Rounds.Process.{tried-running}
 
 pub seat-few : {types : ℕ} {r : Round} → Sound types r → (i : ℕ) → i < candidateCount r
-    → (getD (seats r) i noSeat .institute ≤ instituteCount r) × (getD (seats r) i noSeat .step ≤ 6)
+    → (getD (seats r) i noSeat .institute ≤ instituteCount r) × (getD (seats r) i noSeat .step ≤ 12)
 unfolding seats
 seat-few {r = r} sound i l = go (seat-of sound (tried-running sound) i l)
   where
-    go : Seated r (tried r) i ⊎ Unseated r (tried r) i → (getD (seats r) i noSeat .institute ≤ instituteCount r) × (getD (seats r) i noSeat .step ≤ 6)
+    go : Seated r (tried r) i ⊎ Unseated r (tried r) i → (getD (seats r) i noSeat .institute ≤ instituteCount r) × (getD (seats r) i noSeat .step ≤ 12)
     go (inl s) =
         rw (s .seat) (
           omega (arith, s .inside),

@@ -12,6 +12,7 @@ use Rattle.round.specs.declared.entry.Category.{Category}
 use Rattle.round.specs.Round.{Round}
 use Rattle.round.specs.Questions.{within}
 use Rattle.round.specs.Sound.{Sound}
+use Rattle.round.specs.Places.{stepNumbers}
 use Rattle.offers.specs.Rows.{rowAt, rankIn, entryOf, categoryAt}
 use Rattle.offers.specs.Process.{noSeat, instituteCount, madeTo, seatsAfter}
 use Rattle.offers.specs.Standing.{isStep, seatRank, standing}
@@ -25,15 +26,17 @@ use Rattle.offers.proofs.Rounds.Seats.{stepIn, Seated, Unseated}
 
 module _ (r : Round) where
   -- a seat at a step of an institute of the round
-  module _ (j k : ℕ) (inside : j < instituteCount r) (some : k ≢ 0) (most : k ≤ 6) where
+  module _ (j k : ℕ) (inside : j < instituteCount r) (some : k ≢ 0) (most : k ≤ stepNumbers r j) where
     pub is-step : isStep r (record { institute = suc j; step = k }) ≡ true
     unfolding isStep
     is-step =
+        let z : suc j - 1 ≡ j = omega arith in
         rw (
+          z,
           le-leb 1 (suc j) (omega arith),
           le-leb (suc j) (instituteCount r) (omega arith),
           le-leb 1 k (omega arith),
-          le-leb k 6 most,
+          le-leb k (stepNumbers r j) most,
         )
 
     pub standing-at : (i : ℕ) → let rank : ℕ = rankIn (rowAt r i) (entryOf j (categoryAt r j k)) in let size : ℕ = length (rowAt r i) in
@@ -65,7 +68,7 @@ module _ {types : ℕ} {r : Round} (sound : Sound types r) {tried : List ℕ} (r
       let size : ℕ = length (rowAt r i) in
       ap (standing r i) (s .seat)
       ∙ standing-at r j (stepIn r tried j i) (s .inside) (s .number)
-      (omega (arith, step-number r j (madeTo r tried j) i, sound .institute j (s .inside) .steps-most)) i
+      (omega (arith, step-number r j (madeTo r tried j) i, sound .numbered j (s .inside))) i
       ∙ ap (λ (c : Category). cond (ltb (rankIn (rowAt r i) (entryOf j c)) size) (rankIn (rowAt r i) (entryOf j c)) (suc size)) (s .under)
       ∙ ap (λ b. cond b rank (suc size)) (lt-ltb rank size (omega (arith, seated-rank i s, row-length r i, reached-fits (run .reached) i)))
 

@@ -12,7 +12,7 @@ use borrow.Author.Tests.{lt-ltb, le-ltb}
 use Rattle.round.specs.declared.entry.Category.{Category}
 use Rattle.round.specs.Category.{categoryOf}
 use Rattle.round.specs.Round.{Candidate, Institute, Round}
-use Rattle.round.specs.Places.{candidateAt, instituteAt, stepAt, noCandidate, noInstitute}
+use Rattle.round.specs.Places.{candidateAt, instituteAt, stepAt, stepNumbers, noCandidate, noInstitute}
 use Rattle.round.specs.Sound.{Sound}
 use Rattle.choice.proofs.Counting.{clash}
 use Rattle.choice.proofs.Completion.{completion}
@@ -55,8 +55,8 @@ same-choice r r' institutes number marks =
     ∙ ap (λ (f : ℕ → ℕ). choiceBy r (candidateCount r') f) (fun-ext marks)
     ∙ ap choiceOf rest
   where
-    rest : record { candidates = r' .candidates; institutes = r .institutes } ≡ r'
-    rest = λ k. record { candidates = r' .candidates; institutes = institutes k }
+    rest : record { candidates = r' .candidates; institutes = r .institutes; stepsListed = r' .stepsListed } ≡ r'
+    rest = λ k. record { candidates = r' .candidates; institutes = institutes k; stepsListed = r' .stepsListed }
 
 -- two rounds alike but for the row of candidate i
 pub record AlikeBut (r r' : Round) (i : ℕ) : Type 0 where
@@ -123,7 +123,8 @@ module _ {types types' : ℕ} {r r' : Round} (sound : Sound types r) (sound' : S
           let rank : ℕ = rankIn (rowAt r i) (entryOf j (s .category)) in
           let there : instituteAt r j ≡ instituteAt r' j = ap (λ (l : List Institute). getD l j noInstitute) (alike .institutes) in
           let inside : j < instituteCount r = omega (arith, s .inside, ap (λ (l : List Institute). length l) (alike .institutes)) in
-          let most : k ≤ 6 = omega (arith, step-number r' j (madeTo r' (tried r') j) i, sound' .institute j (s .inside) .steps-most) in
+          let listed : k ≤ length (instituteAt r j .steps) = rw there (step-number r' j (madeTo r' (tried r') j) i) in
+          let most : k ≤ stepNumbers r j = omega (arith, listed, sound .numbered j inside) in
           let stands : standing r i (getD (seats r') i noSeat) ≡ cond (ltb rank size) rank (suc size) =
           ap (standing r i) (s .seat)
           ∙ standing-at r j k inside (s .number) most i

@@ -1,5 +1,5 @@
 -- What is known of an accepted file whose head and starts of records are at hand.
-use Prim.Native.Nat.{ℕ, _-_, _≤_, _<_}
+use Prim.Native.Nat.{ℕ, _*_, _-_, _≤_, _<_}
 use mathlib.Core.Path.{_≡_, sym, _∙_, ap}
 use mathlib.Core.List.{List}
 use native.Mathlib.Omega.{arith}
@@ -14,7 +14,7 @@ use Rattle.round.specs.Reading.{roundOf}
 use Rattle.round.specs.Places.{instituteAt, meritAt}
 use Rattle.round.specs.Sound.{Sound, SoundInstitute}
 use Rattle.round.specs.Outcome.{verdictOf, CandidateStarts, RoundRead}
-use Rattle.round.specs.Access.{CandidateKnown, MeritKnown}
+use Rattle.round.specs.Access.{CandidateKnown, MeritKnown, InstituteKnown}
 use Rattle.round.proofs.Sound.{length-candidates, length-institutes, sound}
 use Rattle.choice.proofs.Steps.{sized, room, front-each, front-zero}
 use Rattle.offers.specs.Process.{candidateCount, instituteCount}
@@ -78,6 +78,9 @@ module _ {file : List ℕ} {h : CodeHead} {candidates merits : List ℕ} (at : A
   pub knows-merit : {j : ℕ} → j < h .institutes → MeritKnown file merits j
   knows-merit l = record { accepted = at .passing; table = at .merit-starts; below = omega (arith, institutes-are) }
 
+  pub knows-institute : {j : ℕ} → j < h .institutes → InstituteKnown file h merits j
+  knows-institute l = record { accepted = at .passing; head = at .head; table = at .institute-starts; below = l }
+
   -- a table of zeros has a place for each candidate
   module _ {table : List ℕ} (e : table ≡ replicate 512 0) where
     pub places : h .candidates ≤ length table
@@ -96,11 +99,11 @@ head-many file n e = e ∙ length-candidates file
 pub zeros-room : (n : ℕ) (l : List ℕ) → l ≡ replicate n 0 → n ≤ length l
 zeros-room n l e = omega (arith, sized n e)
 
--- a table with room for the most institutes of the form
-pub narrow-room : (file table : List ℕ) → formOf file ≡ Narrow → length table ≡ 32 → institutesMost (formOf file) ≤ length table
+-- a table with room for the merit lists and the records of the most institutes of the form
+pub narrow-room : (file table : List ℕ) → formOf file ≡ Narrow → length table ≡ 64 → 2 * institutesMost (formOf file) ≤ length table
 narrow-room file table e l = rw e (omega arith)
 
-pub wide-room : (file table : List ℕ) → formOf file ≡ Wide → length table ≡ 1000 → institutesMost (formOf file) ≤ length table
+pub wide-room : (file table : List ℕ) → formOf file ≡ Wide → length table ≡ 2000 → 2 * institutesMost (formOf file) ≤ length table
 wide-room file table e l = rw e (omega arith)
 
 -- a file that was read is at hand
@@ -111,4 +114,5 @@ at-hand asked {h} told = record {
   head = asked .head h told;
   candidate-starts = asked .candidate-starts h told;
   merit-starts = asked .merit-starts h told;
+  institute-starts = asked .institute-starts h told;
 }

@@ -2,7 +2,8 @@
 -- Assumes nothing.
 use native.Mathlib.Omega.{arith}
 use borrow.Author.Needs.{needs}
-use Rattle.allotment.proofs.Files.Answering.{as-many, institutes-known, holders-small, seats-few, seats-room, closings-room, types-room, holders-few, institutes-few, answer-put}
+use Rattle.allotment.proofs.Files.AreaSeats.{closings-few}
+use Rattle.allotment.proofs.Files.Answering.{as-many, holders-small, seats-few, seats-room, closings-room, types-room, holders-few, institutes-few, answer-put}
 use Rattle.allotment.proofs.areas.write_answer.Statement.{statement}
 use Rattle.allotment.proofs.areas.write_answer.Tie as tie
 
@@ -13,13 +14,26 @@ write-seats-requires : tie.Need-write-seats-requires
 write-seats-requires c κs = ((search as-many, search holders-few), (search holders-small, search seats-room))
 
 write-closings-requires : tie.Need-write-closings-requires
-write-closings-requires c κs = (search needs, (search institutes-known, search (needs, closings-room)))
+write-closings-requires c κs = (search needs, search (needs, closings-room))
 
-mul-write-types : tie.Need-mul-write-types
-mul-write-types c = omega (arith, institutes-few)
+own-steps-requires : tie.Need-own-steps-requires
+own-steps-requires c κs = search needs
 
-add-write-types : tie.Need-add-write-types
-add-write-types c = let start : tie.Start = search needs in omega (arith, seats-few (start .pre .0), institutes-few (start .pre .0))
+closing-width-requires : tie.Need-closing-width-requires
+closing-width-requires c κs = search needs
+
+mul-placed : tie.Need-mul-placed
+mul-placed c =
+    let start : tie.Start = search needs in
+    let wide : tie.After-closing-width = search needs in
+    omega (arith, seats-few (start .pre .0), closings-few _ (wide .closing-width .ensures) (institutes-few (start .pre .0)))
+
+add-placed : tie.Need-add-placed
+add-placed c =
+    let start : tie.Start = search needs in
+    let sized : tie.After-seats-size = search needs in
+    let wide : tie.After-closing-width = search needs in
+    omega (arith, sized .seats-size .ensures, seats-few (start .pre .0), closings-few _ (wide .closing-width .ensures) (institutes-few (start .pre .0)))
 
 write-types-requires : tie.Need-write-types-requires
 write-types-requires c κs = search (needs, types-room)
@@ -37,8 +51,10 @@ write-answer-spec =
     seats-size-requires
     write-seats-requires
     write-closings-requires
-    mul-write-types
-    add-write-types
+    own-steps-requires
+    closing-width-requires
+    mul-placed
+    add-placed
     write-types-requires
     same-length
     returns)

@@ -1,29 +1,35 @@
--- The six closing places of an institute are stored, two bytes each. The invariant: the area with the places passed put in.
+-- The closing places of an institute are stored, two bytes each. The invariant: the area with the places passed put in.
 -- Assumes nothing.
 use borrow.Author.Needs.{needs}
-use Prim.Native.Nat.{_≤_, _-_}
+use Prim.Native.Nat.{_*_, _+_, _≤_, _-_}
 use mathlib.Core.Path.{_≡_, refl}
 use native.Mathlib.Omega.{arith}
 use lib.ListN.{length}
 use lib.Seq.{sets}
 use Rattle.round.specs.Lists.{tabulate, joined}
 use Rattle.round.specs.Reading.{roundOf}
-use Rattle.allotment.specs.Areas.{closingPlaces}
-use Rattle.allotment.proofs.Files.Putting.{closingPieces, closing-put, closings-put}
+use Rattle.allotment.specs.Areas.{closingCount, placesTo}
+use Rattle.allotment.proofs.Files.Putting.{closingPieces, count-is, count-few, places-room, closing-put, closings-put}
 use Rattle.allotment.proofs.areas.write_institute.Statement.{statement}
 use Rattle.allotment.proofs.areas.write_institute.Tie as tie
 
 abbrev Inv-loop : tie.InvT-loop
-Inv-loop file merits holders steps types j area₀ at places k₀ area k = (k ≤ 6) × (places ≡ closingPlaces (roundOf file) j) × (length area ≡ length area₀) × (area ≡ sets area₀ at (joined (tabulate k (closingPieces (roundOf file) j))))
+Inv-loop file merits holders steps types j listed area₀ at places count k₀ area k =
+    (k ≤ count) × (count ≡ closingCount (roundOf file .stepsListed)) × (count ≤ 12) × (at + 2 * count ≤ length area₀)
+    × (places ≡ placesTo 12 (roundOf file) j) × (length places ≡ 12) × (length area ≡ length area₀)
+    × (area ≡ sets area₀ at (joined (tabulate k (closingPieces (roundOf file) j))))
 
 abbrev μ-loop : tie.MeasureT-loop
-μ-loop file merits holders steps types j area₀ at places k₀ area k = 6 - k
-
-loop-holds : tie.Need-loop-holds Inv-loop μ-loop
-loop-holds c = (omega arith, search needs, refl, refl)
+μ-loop file merits holders steps types j listed area₀ at places count k₀ area k = count - k
 
 closing-places-requires : tie.Need-closing-places-requires Inv-loop μ-loop
 closing-places-requires c κs = search needs
+
+closing-count-requires : tie.Need-closing-count-requires Inv-loop μ-loop
+closing-count-requires c κs = search needs
+
+loop-holds : tie.Need-loop-holds Inv-loop μ-loop
+loop-holds c = (omega arith, search count-is, search count-few, search places-room, search needs, search needs, refl, refl)
 
 mul-write-word : tie.Need-mul-write-word Inv-loop μ-loop
 mul-write-word c = search needs
@@ -47,7 +53,7 @@ loop-less : tie.Need-loop-less Inv-loop μ-loop
 loop-less c = search needs
 
 loop-again : tie.Need-loop-again Inv-loop μ-loop
-loop-again c = (omega arith, search needs, search needs, search (needs, closing-put))
+loop-again c = (omega arith, search needs, search needs, search needs, search needs, search needs, search needs, search (needs, closing-put))
 
 same-length : tie.Need-same-length Inv-loop μ-loop
 same-length c = search needs
@@ -62,6 +68,7 @@ write-institute-spec =
     Inv-loop
     μ-loop
     closing-places-requires
+    closing-count-requires
     loop-holds
     mul-write-word
     add-write-word

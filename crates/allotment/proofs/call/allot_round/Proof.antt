@@ -7,6 +7,9 @@ use Rattle.allotment.proofs.Calling.{answer-fits, answer-small, work-sm
 use Rattle.allotment.proofs.call.allot_round.Statement.{statement}
 use Rattle.allotment.proofs.call.allot_round.Tie as tie
 
+own-steps-requires : tie.Need-own-steps-requires
+own-steps-requires c κs = search needs
+
 answer-size-requires : tie.Need-answer-size-requires
 answer-size-requires c κs = (search candidates-few, search institutes-few)
 
@@ -68,6 +71,7 @@ pub allot-round-spec : {M : Type 1} → statement M
 allot-round-spec =
     tie.close
     (tie.spec
+    own-steps-requires
     answer-size-requires
     returns
     mul-if2

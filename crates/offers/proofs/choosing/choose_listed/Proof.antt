@@ -108,7 +108,7 @@ slice-aggregate-rules-of : tie.Need-slice-aggregate-rules-of
 slice-aggregate-rules-of c = search needs
 
 rules-of-requires : tie.Need-rules-of-requires
-rules-of-requires c κs = search needs
+rules-of-requires c κs = (search needs, search needs)
 
 slice-aggregate-choose : tie.Need-slice-aggregate-choose
 slice-aggregate-choose c = search needs

@@ -17,7 +17,7 @@ use Rattle.offers.proofs.types.note_types.Tie as tie
 abbrev Inv-loop : tie.InvT-loop
 Inv-loop file h candidates merits holders steps types₀ n wanted j₀ j-end types j =
     (j ≤ j-end) × (j-end ≡ h .institutes) × (n ≡ h .candidates) × (n ≤ length wanted)
-    × AtHand file h candidates merits × HeldIn (seats (roundOf file)) holders steps × SeatsWanted (length steps) steps (take n wanted)
+    × AtHand file h candidates merits × HeldIn (seats (roundOf file)) holders steps × SeatsWanted (roundOf file) (length steps) holders steps (take n wanted)
     × TypesNoted (roundOf file) j holders types
 
 abbrev μ-loop : tie.MeasureT-loop
@@ -38,7 +38,7 @@ slice-aggregate-seats-wanted c = search (needs, places-many)
 seats-wanted-requires : tie.Need-seats-wanted-requires Inv-loop μ-loop
 seats-wanted-requires c κs =
     let start : tie.Start Inv-loop μ-loop = search needs in
-    places-many (start .pre .0) (c .before .zeros .ensures) ∙ sym (steps-each (start .pre .0) (start .pre .1 .0))
+    (start .pre .0, (start .pre .1 .0, places-many (start .pre .0) (c .before .zeros .ensures) ∙ sym (steps-each (start .pre .0) (start .pre .1 .0))))
 
 loop-holds : tie.Need-loop-holds Inv-loop μ-loop
 loop-holds c =
@@ -47,8 +47,8 @@ loop-holds c =
     let made : tie.After-zeros Inv-loop μ-loop = search needs in
     let wanted : tie.After-seats-wanted Inv-loop μ-loop = search needs in
     let hand = start .pre .0 in
-    let front = wanted .seats-wanted .last .1 .0 in
-    let front-kept = wanted .seats-wanted .kept .1 .0 in
+    let front = wanted .seats-wanted .last .1 .1 .1 .1 .1 .1 .0 in
+    let front-kept = wanted .seats-wanted .kept .1 .1 .1 .1 .1 .1 .0 in
     let few = candidates-few hand in
     (omega arith, refl, refl, room-back few (made .zeros .ensures) front front-kept, hand, start .pre .1 .0, wanted-same (types-back few (made .zeros .ensures) front front-kept) (wanted .seats-wanted .ensures), none-noted hand _ (wiped .clear .kept .0 ∙ start .pre .1 .1) (wiped .clear .ensures))
 

@@ -5,25 +5,47 @@ use mathlib.Core.Logic.{⊎-elim}
 use native.Mathlib.Omega.{arith}
 use lib.ListN.{length}
 use borrow.Author.Needs.{needs}
+use Rattle.round.specs.Reading.{roundOf}
+use Rattle.offers.specs.Process.{seats}
+use Rattle.offers.specs.Held.{AtHand, HeldIn}
 use Rattle.offers.specs.Types.{SeatsWanted}
-use Rattle.offers.proofs.Sweeps.Types.{none-wanted, one-unseated, one-wanted, all-wanted}
+use Rattle.offers.proofs.Sweeps.Types.{none-wanted, one-unseated, one-wanted, all-wanted, arrays-many, seat-known, seat-least, seat-most}
 use Rattle.offers.proofs.types.seats_wanted.Statement.{statement}
 use Rattle.offers.proofs.types.seats_wanted.Tie as tie
 
 abbrev Inv-loop : tie.InvT-loop
-Inv-loop steps wanted₀ i₀ i-end wanted i = (i ≤ i-end) × (i-end ≡ length steps) × SeatsWanted i steps wanted
+Inv-loop file h candidates merits holders steps wanted₀ i₀ i-end wanted i =
+    (i ≤ i-end) × (i-end ≡ length steps) × AtHand file h candidates merits × HeldIn (seats (roundOf file)) holders steps
+    × SeatsWanted (roundOf file) i holders steps wanted
 
 abbrev μ-loop : tie.MeasureT-loop
-μ-loop steps wanted₀ i₀ i-end wanted i = i-end - i
+μ-loop file h candidates merits holders steps wanted₀ i₀ i-end wanted i = i-end - i
 
 loop-holds : tie.Need-loop-holds Inv-loop μ-loop
-loop-holds c = (omega arith, refl, search none-wanted)
+loop-holds c = (omega arith, refl, search needs, search needs, search none-wanted)
 
-shared-slice-read-step : tie.Need-shared-slice-read-step Inv-loop μ-loop
-shared-slice-read-step c = search needs
+mul-long : tie.Need-mul-long Inv-loop μ-loop
+mul-long c = search needs
+
+shared-slice-read-long : tie.Need-shared-slice-read-long Inv-loop μ-loop
+shared-slice-read-long c =
+    let at : tie.At-loop Inv-loop μ-loop = search needs in
+    omega (arith, arrays-many (at .loop .inv .2) (at .loop .inv .3))
+
+long-requires : tie.Need-long-requires Inv-loop μ-loop
+long-requires c κs = search needs
+
+sub-step-category : tie.Need-sub-step-category Inv-loop μ-loop
+sub-step-category c = search needs
+
+shared-slice-read-wide : tie.Need-shared-slice-read-wide Inv-loop μ-loop
+shared-slice-read-wide c = search needs
+
+wide-requires : tie.Need-wide-requires Inv-loop μ-loop
+wide-requires c κs = search needs
 
 step-category-requires : tie.Need-step-category-requires Inv-loop μ-loop
-step-category-requires c κs = search needs
+step-category-requires c κs = (search seat-known, (search seat-least, search seat-most))
 
 only-requires : tie.Need-only-requires Inv-loop μ-loop
 only-requires c κs = search needs
@@ -38,13 +60,13 @@ loop-less : tie.Need-loop-less Inv-loop μ-loop
 loop-less c = search needs
 
 loop-again : tie.Need-loop-again Inv-loop μ-loop
-loop-again c = (omega arith, refl, ⊎-elim (λ w. search one-wanted) (λ w. search one-unseated) (c .if1 .came))
+loop-again c = (omega arith, refl, search needs, search needs, ⊎-elim (λ w. search one-wanted) (λ w. search one-unseated) (c .if1 .came))
 
 same-length : tie.Need-same-length Inv-loop μ-loop
 same-length c = search needs
 
 returns : tie.Need-returns Inv-loop μ-loop
-returns c = all-wanted (c .before .loop .inv .2) _ (omega arith)
+returns c = all-wanted (c .before .loop .inv .4) _ (omega arith)
 
 pub seats-wanted-spec : {M : Type 1} → statement M
 seats-wanted-spec =
@@ -53,7 +75,12 @@ seats-wanted-spec =
     Inv-loop
     μ-loop
     loop-holds
-    shared-slice-read-step
+    mul-long
+    shared-slice-read-long
+    long-requires
+    sub-step-category
+    shared-slice-read-wide
+    wide-requires
     step-category-requires
     only-requires
     slice-write-wanted

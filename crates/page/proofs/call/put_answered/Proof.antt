@@ -20,6 +20,9 @@ part-head-in-end c = search (needs, head-there)
 head-in-requires : tie.Need-head-in-requires
 head-in-requires c κs = search needs
 
+own-steps-requires : tie.Need-own-steps-requires
+own-steps-requires c κs = search needs
+
 put-allotment-requires : tie.Need-put-allotment-requires
 put-allotment-requires c κs = ((search (needs, candidates-most), search (needs, institutes-most), search (needs, answer-there)), search (needs, page-fits))
 
@@ -38,6 +41,7 @@ put-answered-spec =
     part-head-in-start
     part-head-in-end
     head-in-requires
+    own-steps-requires
     put-allotment-requires
     same-length
     returns)

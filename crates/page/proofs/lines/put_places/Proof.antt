@@ -11,11 +11,11 @@ use Rattle.page.proofs.lines.put_places.Statement.{statement}
 use Rattle.page.proofs.lines.put_places.Tie as tie
 
 abbrev Inv-loop : tie.InvT-loop
-Inv-loop page₀ at answer from behind₀ k₀ page behind k =
-    (k ≤ 6) × Put page₀ at (joined (tabulate k (placeText answer from))) page behind
+Inv-loop page₀ at count answer from behind₀ k₀ page behind k =
+    (k ≤ count) × Put page₀ at (joined (tabulate k (placeText answer from))) page behind
 
 abbrev μ-loop : tie.MeasureT-loop
-μ-loop page₀ at answer from behind₀ k₀ page behind k = 6 - k
+μ-loop page₀ at count answer from behind₀ k₀ page behind k = count - k
 
 loop-holds : tie.Need-loop-holds Inv-loop μ-loop
 loop-holds c = (omega arith, put-none _ _)

@@ -1,4 +1,4 @@
--- The table of a wide file has room for its merit lists.
+-- The table of a wide file has room for its merit lists and its institutes.
 -- Assumes nothing.
 use borrow.Author.Needs.{needs}
 use Rattle.offers.proofs.Sweeps.Known.{wide-room}

@@ -2,7 +2,7 @@
 use native.Mathlib.Omega.{arith}
 use Rattle.offers.proofs.Sweeps.Known.{candidates-many}
 use Rattle.review.proofs.SeatsRanked.{candidate-known}
-use Rattle.review.proofs.EntriesAbove.{institute-least, institute-inside, would-be-taken}
+use Rattle.review.proofs.EntriesAbove.{institute-least, institute-inside, institute-known, step-numbered, would-be-taken}
 use borrow.Author.Needs.{needs}
 use Rattle.review.proofs.entries.would_take.Statement.{statement}
 use Rattle.review.proofs.entries.would_take.Tie as tie
@@ -17,8 +17,14 @@ step-with-requires : tie.Need-step-with-requires
 step-with-requires c κs =
     (search needs, ((search needs, search institute-inside), (omega (arith, candidates-many), omega (arith, candidates-many), search needs)))
 
+sub-takes : tie.Need-sub-takes
+sub-takes c = search institute-least
+
+wide-requires : tie.Need-wide-requires
+wide-requires c κs = search needs
+
 takes-requires : tie.Need-takes-requires
-takes-requires c κs = search needs
+takes-requires c κs = (search institute-known, search step-numbered)
 
 same-length : tie.Need-same-length
 same-length c = search needs
@@ -30,7 +36,15 @@ same-length-3 : tie.Need-same-length-3
 same-length-3 c = search needs
 
 returns : tie.Need-returns
-returns c = (search would-be-taken, search needs, search needs)
+returns c =
+    let start : tie.Start = search needs in
+    let read : tie.After-row-entry = search needs in
+    let given : tie.After-step-with = search needs in
+    let numbered : tie.After-wide = search needs in (
+      would-be-taken (start .pre .0) (start .pre .1 .1 .0) (start .pre .1 .1 .1) (read .row-entry .ensures) (start .pre .1 .0) (given .step-with .ensures .0) (numbered .wide .ensures .0) (c .takes .ensures),
+      search needs,
+      search needs,
+    )
 
 pub would-take-spec : {M : Type 1} → statement M
 would-take-spec =
@@ -39,6 +53,8 @@ would-take-spec =
     row-entry-requires
     sub-step-with
     step-with-requires
+    sub-takes
+    wide-requires
     takes-requires
     same-length
     same-length-2

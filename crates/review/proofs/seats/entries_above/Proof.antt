@@ -1,8 +1,5 @@
--- `review::seats::entries_above` meets its contract: the seat is ranked where it names an institute and a step. Assumes nothing.
-use Prim.Native.Nat.{_<_}
-use mathlib.Core.Logic.{⊎-elim}
-use native.Mathlib.Omega.{arith}
-use Rattle.review.proofs.SeatsRanked.{candidate-known, bytes-inside, no-institute, no-step, both-named, step-least, step-few, above-named, above-unnamed}
+-- `review::seats::entries_above` meets its contract: the seat is ranked where it names an institute and a step of it. Assumes nothing.
+use Rattle.review.proofs.SeatsRanked.{candidate-known, institute-known, bytes-inside, tested-least, tested-most, above-no-institute, above-no-step, above-step}
 use borrow.Author.Needs.{needs}
 use Rattle.review.proofs.seats.entries_above.Statement.{statement}
 use Rattle.review.proofs.seats.entries_above.Tie as tie
@@ -20,32 +17,44 @@ step-at-requires c κs =
 within-requires : tie.Need-within-requires
 within-requires c κs = search needs
 
-within-requires-2 : tie.Need-within-requires-2
-within-requires-2 c κs = search needs
-
-cast-step-category : tie.Need-cast-step-category
-cast-step-category c =
-    let read : tie.After-step-at = search needs in
-    let few : read .step-at .result < 256 = step-few (c .before .within2 .ensures) (c .if2 .taken) in
-    omega arith
-
-step-category-requires : tie.Need-step-category-requires
-step-category-requires c κs = step-least (c .before .within2 .ensures) (c .if2 .taken)
-
-rank-in-requires : tie.Need-rank-in-requires
-rank-in-requires c κs = search candidate-known
-
 row-length-requires : tie.Need-row-length-requires
 row-length-requires c κs = search candidate-known
 
 returns : tie.Need-returns
-returns c = search (above-named, both-named)
+returns c = search above-no-institute
+
+sub-j : tie.Need-sub-j
+sub-j c = search tested-least
+
+step-numbers-requires : tie.Need-step-numbers-requires
+step-numbers-requires c κs = search institute-known
+
+within-requires-2 : tie.Need-within-requires-2
+within-requires-2 c κs = search needs
+
+row-length-requires-2 : tie.Need-row-length-requires-2
+row-length-requires-2 c κs = search candidate-known
 
 returns-2 : tie.Need-returns-2
-returns-2 c =
+returns-2 c = search above-no-step
+
+step-category-requires : tie.Need-step-category-requires
+step-category-requires c κs =
     let start : tie.Start = search needs in
-    let at : tie.Joined1 = search needs in
-    above-unnamed (start .pre .0) (start .pre .1) (⊎-elim (λ w. search no-step) (λ w. search no-institute) (at .if1 .came)) (search needs)
+    let named : tie.Else1 = search needs in
+    let counted : tie.After-step-numbers = search needs in (
+      institute-known (start .pre .0) (start .pre .1) _ (named .before .within .ensures) (named .if1 .left),
+      (
+        tested-least _ _ (c .before .within2 .ensures) (c .if2 .left),
+        tested-most _ _ (c .before .within2 .ensures) (c .if2 .left) (counted .step-numbers .ensures),
+      ),
+    )
+
+rank-in-requires : tie.Need-rank-in-requires
+rank-in-requires c κs = search candidate-known
+
+returns-3 : tie.Need-returns-3
+returns-3 c = search above-step
 
 pub entries-above-spec : {M : Type 1} → statement M
 entries-above-spec =
@@ -54,10 +63,13 @@ entries-above-spec =
     institute-at-requires
     step-at-requires
     within-requires
-    within-requires-2
-    cast-step-category
-    step-category-requires
-    rank-in-requires
     row-length-requires
     returns
-    returns-2)
+    sub-j
+    step-numbers-requires
+    within-requires-2
+    row-length-requires-2
+    returns-2
+    step-category-requires
+    rank-in-requires
+    returns-3)

@@ -1,5 +1,5 @@
 -- `review::seats::read_seats` meets its contract: the seats passed are read. Assumes nothing.
-use Prim.Native.Nat.{_-_, _≤_, _<_}
+use Prim.Native.Nat.{_-_, _≤_}
 use mathlib.Core.Path.{_≡_}
 use mathlib.Core.Logic.{⊎-elim}
 use native.Mathlib.Omega.{arith}
@@ -7,7 +7,7 @@ use Rattle.choice.proofs.Steps.{sized}
 use Rattle.round.specs.Reading.{roundOf}
 use Rattle.review.specs.Outcome.{listFor}
 use Rattle.review.specs.Tables.{SeatsRead}
-use Rattle.review.proofs.SeatsReading.{none-read, one-skipped, one-read, row-step-least, row-step-few, asked-long, wanted-long, all-read}
+use Rattle.review.proofs.SeatsReading.{none-read, one-skipped, one-read, row-institute-least, row-step-known, asked-long, wanted-long, all-read}
 use Rattle.review.proofs.SeatsRanked.{bytes-inside}
 use borrow.Author.Needs.{needs}
 use Rattle.review.proofs.seats.read_seats.Statement.{statement}
@@ -32,6 +32,24 @@ institute-at-requires c κs =
     let l : tie.At-loop Inv-loop μ-loop = search needs in
     bytes-inside (start .pre .0) (omega arith)
 
+step-at-requires : tie.Need-step-at-requires Inv-loop μ-loop
+step-at-requires c κs =
+    let start : tie.Start Inv-loop μ-loop = search needs in
+    let l : tie.At-loop Inv-loop μ-loop = search needs in
+    bytes-inside (start .pre .0) (omega arith)
+
+sub-step-category : tie.Need-sub-step-category Inv-loop μ-loop
+sub-step-category c =
+    let start : tie.Start Inv-loop μ-loop = search needs in
+    let tested : tie.Then1 Inv-loop μ-loop = search needs in
+    row-institute-least (start .pre .0) (omega arith) (tested .before .in-row .ensures) (c .before .institute-at .ensures .0) (tested .if1 .taken)
+
+step-category-requires : tie.Need-step-category-requires Inv-loop μ-loop
+step-category-requires c κs =
+    let start : tie.Start Inv-loop μ-loop = search needs in
+    let tested : tie.Then1 Inv-loop μ-loop = search needs in
+    row-step-known (start .pre .0) (omega arith) (tested .before .in-row .ensures) (c .before .institute-at .ensures .0) (tested .if1 .taken) (c .step-at .ensures .0)
+
 cast-asked : tie.Need-cast-asked Inv-loop μ-loop
 cast-asked c = search needs
 
@@ -43,26 +61,6 @@ slice-write-asked c =
     let start : tie.Start Inv-loop μ-loop = search needs in
     let l : tie.At-loop Inv-loop μ-loop = search needs in
     omega (arith, asked-long (start .pre .0) (l .loop .inv .2))
-
-step-at-requires : tie.Need-step-at-requires Inv-loop μ-loop
-step-at-requires c κs =
-    let start : tie.Start Inv-loop μ-loop = search needs in
-    let l : tie.At-loop Inv-loop μ-loop = search needs in
-    bytes-inside (start .pre .0) (omega arith)
-
-cast-step-category : tie.Need-cast-step-category Inv-loop μ-loop
-cast-step-category c =
-    let start : tie.Start Inv-loop μ-loop = search needs in
-    let tested : tie.Then1 Inv-loop μ-loop = search needs in
-    let few : c .step-at .result < 256 =
-    row-step-few (start .pre .0) (omega arith) (tested .before .in-row .ensures) (c .step-at .ensures .0) (tested .if1 .taken) in
-    omega arith
-
-step-category-requires : tie.Need-step-category-requires Inv-loop μ-loop
-step-category-requires c κs =
-    let start : tie.Start Inv-loop μ-loop = search needs in
-    let tested : tie.Then1 Inv-loop μ-loop = search needs in
-    row-step-least (start .pre .0) (omega arith) (tested .before .in-row .ensures) (c .step-at .ensures .0) (tested .if1 .taken)
 
 only-requires : tie.Need-only-requires Inv-loop μ-loop
 only-requires c κs = search needs
@@ -119,12 +117,12 @@ read-seats-spec =
     loop-holds
     in-row-requires
     institute-at-requires
+    step-at-requires
+    sub-step-category
+    step-category-requires
     cast-asked
     mul-asked
     slice-write-asked
-    step-at-requires
-    cast-step-category
-    step-category-requires
     only-requires
     slice-write-wanted
     add-i

@@ -1,25 +1,37 @@
--- `round::institute::positions_in` meets its contract: the word of a code lies within the body.
+-- `round::institute::positions_in` meets its contract: the word of a step lies within the body.
 -- Assumes nothing.
 use native.Mathlib.Omega.{arith}
-use Rattle.round.proofs.Words.{slot}
+use Rattle.round.proofs.Steps.{StepInside, step-inside, positions-at}
 use borrow.Author.Needs.{needs}
 use Rattle.round.proofs.institute.positions_in.Statement.{statement}
 use Rattle.round.proofs.institute.positions_in.Tie as tie
 
-add-word : tie.Need-add-word
-add-word c = search needs
+-- where the function begins
+abbrev start : tie.After-step-width → tie.Start
+start c = c .before .before
+
+inside : (c : tie.After-step-width) → StepInside (start c .args .k) (c .step-width .result) (start c .args .body .now)
+inside c = step-inside _ _ (start c .pre .0) _ (c .step-width .ensures) (start c .pre .1)
+
+step-width-requires : tie.Need-step-width-requires
+step-width-requires c κs = search needs
 
 mul-word : tie.Need-mul-word
-mul-word c = omega (arith, slot (c .before .args .types) (c .before .args .code) (c .before .pre .1))
+mul-word c = omega (arith, inside c)
 
-mul-word-2 : tie.Need-mul-word-2
-mul-word-2 c = omega (arith, slot (c .before .args .types) (c .before .args .code) (c .before .pre .1))
+step-lead-requires : tie.Need-step-lead-requires
+step-lead-requires c κs = search needs
+
+add-word : tie.Need-add-word
+add-word c = omega (arith, inside (c .before))
 
 word-requires : tie.Need-word-requires
-word-requires c κs = omega (arith, slot (c .before .args .types) (c .before .args .code) (c .before .pre .1))
+word-requires c κs = omega (arith, inside (c .before))
 
 returns : tie.Need-returns
-returns c = search needs
+returns c = search (positions-at, needs)
 
 pub positions-in-spec : {M : Type 1} → statement M
-positions-in-spec = tie.close (tie.spec add-word mul-word mul-word-2 word-requires returns)
+positions-in-spec =
+    tie.close
+    (tie.spec step-width-requires mul-word step-lead-requires add-word word-requires returns)

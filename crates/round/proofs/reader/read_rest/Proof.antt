@@ -25,6 +25,18 @@ rows-lawful c = c .before .before .before
 abbrev lists-read : tie.After-known-told3 → tie.After-read-kind3
 lists-read c = c .before .before .before .before .before
 
+mul-read-kind : tie.Need-mul-read-kind
+mul-read-kind c = search needs
+
+sub-read-kind : tie.Need-sub-read-kind
+sub-read-kind c = search needs
+
+part-read-kind-start : tie.Need-part-read-kind-start
+part-read-kind-start c = search needs
+
+part-read-kind-end : tie.Need-part-read-kind-end
+part-read-kind-end c = search needs
+
 read-kind-requires : tie.Need-read-kind-requires
 read-kind-requires c κs = search needs
 
@@ -109,6 +121,10 @@ pub read-rest-spec : {M : Type 1} → statement M
 read-rest-spec =
     tie.close
     (tie.spec
+    mul-read-kind
+    sub-read-kind
+    part-read-kind-start
+    part-read-kind-end
     read-kind-requires
     enum-known-institutes
     enum-told

@@ -42,8 +42,8 @@ sub-if4 c = search needs
 returns-4 : tie.Need-returns-4
 returns-4 c = search (refused-by, cond-no, cond-yes, lead-there, kind-due, allowed-yes, body-no) depth 6
 
-add-t11 : tie.Need-add-t11
-add-t11 c = search needs
+add-t10 : tie.Need-add-t10
+add-t10 c = search needs
 
 returns-5 : tie.Need-returns-5
 returns-5 c = search (lawful-by, cond-yes, lead-there, kind-due, allowed-yes, body-there) depth 6
@@ -64,5 +64,5 @@ find-record-spec =
     add-start
     sub-if4
     returns-4
-    add-t11
+    add-t10
     returns-5)

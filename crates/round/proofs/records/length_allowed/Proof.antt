@@ -9,11 +9,8 @@ use Rattle.round.proofs.records.length_allowed.Tie as tie
 returns : tie.Need-returns
 returns c = search (cond-yes, eq-eqb)
 
-mul-result : tie.Need-mul-result
-mul-result c = search needs
-
-add-result : tie.Need-add-result
-add-result c = search needs
+institute-allowed-requires : tie.Need-institute-allowed-requires
+institute-allowed-requires c κs = search needs
 
 returns-2 : tie.Need-returns-2
 returns-2 c = search (cond-yes, cond-no, eq-eqb, ne-eqb)
@@ -38,8 +35,7 @@ length-allowed-spec =
     tie.close
     (tie.spec
     returns
-    mul-result
-    add-result
+    institute-allowed-requires
     returns-2
     row-allowed-requires
     returns-3
