@@ -68,6 +68,12 @@ pub fn came(answer: &Answer) -> Came {
     }
 }
 
+/// What a call said, and where its answer and work areas differ from those of another.
+pub fn text(said: &Answer, [answer, work]: [&Area; 2], others: [&Area; 2]) -> String {
+    let answer = area_text("answer", answer, others[0]);
+    format!("{said}{answer}{}", area_text("work", work, others[1]))
+}
+
 /// Makes one call of each on like areas and compares the answers, all bytes of both areas, their guards, and the file.
 pub fn compare(random: &mut Random, file: &[u8], lengths: Lengths) -> (Came, Option<Difference>) {
     compare_with(random, file, lengths, "", call_on)
@@ -108,12 +114,8 @@ fn compare_with(
     if said == due && answer == due_answer && work == due_work && kept {
         return (came, None);
     }
-    let text = |said: &Answer, answer: &Area, work: &Area, others: (&Area, &Area)| {
-        let (of_answer, of_work) = others;
-        let answer = area_text("answer", answer, of_answer);
-        format!("{said}{answer}{}", area_text("work", work, of_work))
-    };
-    let mut unit = text(&said, &answer, &work, (&due_answer, &due_work));
+    let (left, due_left) = ([&answer, &work], [&due_answer, &due_work]);
+    let mut unit = text(&said, left, due_left);
     if !kept {
         unit.push_str("; the file was written to");
     }
@@ -125,7 +127,7 @@ fn compare_with(
         input: file.to_vec(),
         list: None,
         unit,
-        second: text(&due, &due_answer, &due_work, (&answer, &work)),
+        second: text(&due, due_left, left),
     };
     (came, Some(difference))
 }

@@ -20,6 +20,7 @@ pub mod program;
 pub mod relisting;
 pub mod review;
 pub mod reviews;
+pub mod rewritten;
 pub mod shapes;
 pub mod some_steps;
 pub mod sort;

@@ -1,14 +1,13 @@
 //! The unit on a file of policy 0 or 1 and on the same one rewritten with lists of steps: both calls have to say the same.
 
 use crate::area::Area;
-use crate::call::{self, areas};
 use crate::classes::{worked, Run};
-use crate::difference::{area_text, Difference};
-use crate::files::{at_edges, Made};
+use crate::difference::Difference;
+use crate::files::at_edges;
 use crate::lists::Listed;
 use crate::plan;
-use crate::review;
 use crate::reviews::worked_lists;
+use crate::rewritten::{self, compare_review, Lent};
 use crate::sort::Sort;
 use crate::tally::{Came, Tally};
 use second::form::Form;
@@ -16,14 +15,17 @@ use second::random::Random;
 use second::reading::{read, Round};
 use second::step_lists::{with_six_steps, with_step_lists};
 use std::path::Path;
-use tazbilk::{steps_answer_size, wide_steps_answer_size, Answer};
+use tazbilk::{steps_answer_size, wide_steps_answer_size};
 
 /// The name of the class of calls, and that of reviews.
 pub const CALLS: &str = "relisted";
 pub const REVIEWS: &str = "relisted, reviews";
 
-/// What stands for the second program where a case differs.
-const UNIT_TOO: &str = "'second' is what the unit says of the one without lists";
+/// What is asked where a call differs, and where a review does.
+const ALLOT: &str = "allot a file rewritten with lists of steps; \
+    'second' is what the unit says of the one without lists";
+const REVIEW: &str = "review for a file rewritten with lists of steps; \
+    'second' is what the unit says of the one without lists";
 
 /// The bytes of the six closing places of an institute, and of twelve.
 const SIX: usize = 12;
@@ -57,54 +59,17 @@ fn compare(
     random: &mut Random,
     round: &Round,
     file: &[u8],
-    listed: Vec<u8>,
+    listed: &[u8],
 ) -> (Came, Option<Difference>) {
-    let (mut plain_answer, mut plain_work) = areas(random, file);
-    let mut answer = Area::new(random, size(round));
-    let mut work = plain_work.clone();
-    let mut due_answer = answer.clone();
-
-    let due = tazbilk::allot(file, plain_answer.lent(), plain_work.lent());
-    let said = tazbilk::allot(&listed, answer.lent(), work.lent());
-
-    let bytes = with_twelve_places(round, plain_answer.seen());
-    due_answer.lent().copy_from_slice(&bytes);
-    let difference = (said != due || answer != due_answer || work != plain_work).then(|| {
-        let text = |said: &Answer, answer: &Area, work: &Area, others: (&Area, &Area)| {
-            let (of_answer, of_work) = others;
-            let answer = area_text("answer", answer, of_answer);
-            format!("{said}{answer}{}", area_text("work", work, of_work))
-        };
-        Difference {
-            asked: format!("allot a file rewritten with lists of steps; {UNIT_TOO}"),
-            input: listed,
-            list: None,
-            unit: text(&said, &answer, &work, (&due_answer, &plain_work)),
-            second: text(&due, &due_answer, &plain_work, (&answer, &work)),
-        }
-    });
-    (call::came(&due), difference)
-}
-
-/// Reviews a list for a lawful file without lists and for the same with lists, and compares the judgements and the work areas.
-fn compare_review(
-    random: &mut Random,
-    file: &[u8],
-    list: &[u8],
-    listed: Vec<u8>,
-) -> (Came, Option<Difference>) {
-    let (_, mut due_work) = areas(random, file);
-    let mut work = due_work.clone();
-    let due = tazbilk::review(file, list, due_work.lent());
-    let said = tazbilk::review(&listed, list, work.lent());
-    let difference = (said != due || work != due_work).then(|| Difference {
-        asked: format!("review for a file rewritten with lists of steps; {UNIT_TOO}"),
-        input: listed,
-        list: Some(list.to_vec()),
-        unit: format!("{said}{}", area_text("work", &work, &due_work)),
-        second: format!("{due}{}", area_text("work", &due_work, &work)),
-    });
-    (review::came(&due), difference)
+    let plain = Lent::new(random, file);
+    let own = Lent {
+        file: listed,
+        answer: Area::new(random, size(round)),
+        work: plain.work.clone(),
+    };
+    rewritten::compare(ALLOT, plain, own, |answer| {
+        with_twelve_places(round, answer)
+    })
 }
 
 /// Whether a list has step 6 somewhere.
@@ -139,7 +104,7 @@ impl Run {
             let mut rewritten = vec![with_step_lists(&file), with_six_steps(&file)];
             rewritten.dedup();
             for listed in rewritten.into_iter().flatten() {
-                let (came, difference) = compare(&mut random, &round, &file, listed);
+                let (came, difference) = compare(&mut random, &round, &file, &listed);
                 tally.count(came, difference);
             }
         }
@@ -156,29 +121,15 @@ impl Run {
         }
         for form in Form::BOTH {
             for listed in Listed::all(Sort::by_policy(form)) {
+                let name = format!("{REVIEWS}, {}", listed.name());
                 for counted in plan::relisted_lists(form, self.long) {
-                    self.relisted_lists(&mut tally, &mut random, listed, counted);
+                    self.each_list(&name, &mut random, listed, counted, |random, file, list| {
+                        relisted_review(&mut tally, random, file, list);
+                    });
                 }
             }
         }
         tally
-    }
-
-    /// Lists of a class for so many files of a class.
-    fn relisted_lists(
-        &self,
-        tally: &mut Tally,
-        random: &mut Random,
-        listed: Listed,
-        (made, count): (Made, usize),
-    ) {
-        let name = format!("{REVIEWS}, {}, {}", listed.name(), made.name());
-        for file in self.made_for(&name, made, count) {
-            let file = listed.file(file);
-            let Ok(round) = read(&file) else { continue };
-            let list = listed.list(random, &round, &file);
-            relisted_review(tally, random, &file, &list);
-        }
     }
 }
 
@@ -186,7 +137,7 @@ impl Run {
 fn relisted_review(tally: &mut Tally, random: &mut Random, file: &[u8], list: &[u8]) {
     let Ok(round) = read(file) else { return };
     if let Some(listed) = relisted_for(&round, file, list) {
-        let (came, difference) = compare_review(random, file, list, listed);
+        let (came, difference) = compare_review(REVIEW, random, (file, list), (&listed, list));
         tally.count(came, difference);
     }
 }

@@ -67,30 +67,44 @@ pub fn some_list(random: &mut Random, file: &[u8]) -> Vec<u8> {
 }
 
 impl Run {
+    /// Does something with a list of a class for each of so many files of a class, others for each name.
+    pub fn each_list(
+        &self,
+        name: &str,
+        random: &mut Random,
+        listed: Listed,
+        (made, count): (Made, usize),
+        mut each: impl FnMut(&mut Random, &[u8], &[u8]),
+    ) {
+        for file in self.made_for(&format!("{name}, {}", made.name()), made, count) {
+            let file = listed.file(file);
+            let Ok(round) = read(&file) else { continue };
+            let list = listed.list(random, &round, &file);
+            each(random, &file, &list);
+        }
+    }
+
     /// Reviews of lists of a class for rounds of these classes of a sort, so many of each.
     pub fn lists(&self, sort: Sort, listed: Listed, rounds: &[(Made, usize)]) -> Tally {
         let name = sort.named(listed.name());
         let mut random = self.random(&name);
         let count = rounds.iter().map(|(_, count)| count).sum();
         let mut tally = Tally::new(&name, count, self.long).with(listed.due());
-        for &(made, count) in rounds {
-            for file in self.made_for(&format!("{name}, {}", made.name()), made, count) {
-                let file = listed.file(file);
-                let Ok(round) = read(&file) else { continue };
-                let list = listed.list(&mut random, &round, &file);
-                let work = some_work(&mut random, &file);
-                let (judgement, difference) = compare(&mut random, &file, &list, work);
+        for &counted in rounds {
+            self.each_list(&name, &mut random, listed, counted, |random, file, list| {
+                let work = some_work(random, file);
+                let (judgement, difference) = compare(random, file, list, work);
                 let came = came(&judgement);
                 let not_own = || Difference {
                     asked: "review of the unit's own list, which has to pass".to_string(),
-                    input: file.clone(),
-                    list: Some(list.clone()),
+                    input: file.to_vec(),
+                    list: Some(list.to_vec()),
                     unit: judgement.to_string(),
                     second: judgement.to_string(),
                 };
                 let wrong = listed == Listed::Own && came != Came::Accepted;
                 tally.count(came, difference.or_else(|| wrong.then(not_own)));
-            }
+            });
         }
         tally
     }

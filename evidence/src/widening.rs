@@ -1,14 +1,13 @@
 //! The unit on a narrow file and on the same one rewritten in the wide form: both calls have to say the same.
 
-use crate::area::Area;
-use crate::call::{self, areas, needed};
+use crate::call::needed;
 use crate::classes::{worked, Run};
-use crate::difference::{area_text, Difference};
-use crate::files::{at_edges, Made};
+use crate::difference::Difference;
+use crate::files::at_edges;
 use crate::lists::Listed;
 use crate::plan;
-use crate::review;
 use crate::reviews::worked_lists;
+use crate::rewritten::{self, Lent};
 use crate::sort::Sort;
 use crate::tally::{Came, Tally};
 use second::form::Form;
@@ -16,7 +15,7 @@ use second::random::Random;
 use second::reading::read;
 use second::widening::{widened, widened_list};
 use std::path::Path;
-use tazbilk::{list_size, Answer};
+use tazbilk::list_size;
 
 /// The name of the class of calls, and that of reviews.
 pub const CALLS: &str = "widened";
@@ -28,56 +27,27 @@ const NARROW: [Sort; 2] = [
     Sort::with_steps(Form::Narrow),
 ];
 
-/// What stands for the second program where a case differs.
-const UNIT_TOO: &str = "'second' is what the unit says of the narrow one";
+/// What is asked where a call differs, and where a review does.
+const ALLOT: &str = "allot a narrow file rewritten; \
+    'second' is what the unit says of the narrow one";
+const REVIEW: &str = "review of a narrow list and file rewritten; \
+    'second' is what the unit says of the narrow one";
 
 /// Allots a lawful narrow file and the same in the wide form, and compares offers, seats, steps, closing places and types.
 fn compare(random: &mut Random, file: &[u8]) -> (Came, Option<Difference>) {
     let wide = widened(file);
-    let (mut narrow_answer, mut narrow_work) = areas(random, file);
-    let (mut answer, mut work) = areas(random, &wide);
-    let (mut due_answer, mut due_work) = (answer.clone(), work.clone());
-
-    let due = tazbilk::allot(file, narrow_answer.lent(), narrow_work.lent());
-    let said = tazbilk::allot(&wide, answer.lent(), work.lent());
-
-    let n = narrow_work.seen().len() / 8;
-    let (seats, rest) = narrow_answer.seen().split_at(list_size(n));
-    let bytes = [&widened_list(seats), rest].concat();
-    due_answer.lent().copy_from_slice(&bytes);
-    due_work.lent().copy_from_slice(narrow_work.seen());
-    let difference = (said != due || answer != due_answer || work != due_work).then(|| {
-        let text = |said: &Answer, answer: &Area, work: &Area, others: (&Area, &Area)| {
-            let (of_answer, of_work) = others;
-            let answer = area_text("answer", answer, of_answer);
-            format!("{said}{answer}{}", area_text("work", work, of_work))
-        };
-        Difference {
-            asked: format!("allot a narrow file rewritten; {UNIT_TOO}"),
-            input: wide,
-            list: None,
-            unit: text(&said, &answer, &work, (&due_answer, &due_work)),
-            second: text(&due, &due_answer, &due_work, (&answer, &work)),
-        }
-    });
-    (call::came(&due), difference)
+    let (plain, own) = (Lent::new(random, file), Lent::new(random, &wide));
+    let seats = list_size(plain.work.seen().len() / 8);
+    rewritten::compare(ALLOT, plain, own, |answer| {
+        let (seats, rest) = answer.split_at(seats);
+        [&widened_list(seats), rest].concat()
+    })
 }
 
-/// Reviews a list for a lawful narrow file and the same list and file in the wide form, and compares the judgements and the work areas.
+/// Reviews a list for a lawful narrow file and the same list and file in the wide form.
 fn compare_review(random: &mut Random, file: &[u8], list: &[u8]) -> (Came, Option<Difference>) {
     let (wide, wide_list) = (widened(file), widened_list(list));
-    let (_, mut due_work) = areas(random, file);
-    let mut work = due_work.clone();
-    let due = tazbilk::review(file, list, due_work.lent());
-    let said = tazbilk::review(&wide, &wide_list, work.lent());
-    let difference = (said != due || work != due_work).then(|| Difference {
-        asked: format!("review of a narrow list and file rewritten; {UNIT_TOO}"),
-        input: wide,
-        list: Some(wide_list),
-        unit: format!("{said}{}", area_text("work", &work, &due_work)),
-        second: format!("{due}{}", area_text("work", &due_work, &work)),
-    });
-    (review::came(&due), difference)
+    rewritten::compare_review(REVIEW, random, (file, list), (&wide, &wide_list))
 }
 
 impl Run {
@@ -117,8 +87,12 @@ impl Run {
         }
         for sort in NARROW {
             for listed in Listed::all(sort) {
+                let name = format!("{REVIEWS}, {}", listed.name());
                 for counted in plan::widened_lists(sort, self.long) {
-                    self.widened_lists(&mut tally, &mut random, listed, counted);
+                    self.each_list(&name, &mut random, listed, counted, |random, file, list| {
+                        let (came, difference) = compare_review(random, file, list);
+                        tally.count(came, difference);
+                    });
                 }
             }
         }
@@ -133,23 +107,5 @@ impl Run {
             files * Listed::all(sort).len()
         };
         NARROW.into_iter().map(of_sort).sum()
-    }
-
-    /// Lists of a class for so many files of a class.
-    fn widened_lists(
-        &self,
-        tally: &mut Tally,
-        random: &mut Random,
-        listed: Listed,
-        (made, count): (Made, usize),
-    ) {
-        let name = format!("{REVIEWS}, {}, {}", listed.name(), made.name());
-        for file in self.made_for(&name, made, count) {
-            let file = listed.file(file);
-            let Ok(round) = read(&file) else { continue };
-            let list = listed.list(random, &round, &file);
-            let (came, difference) = compare_review(random, &file, &list);
-            tally.count(came, difference);
-        }
     }
 }

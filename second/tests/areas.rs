@@ -1,35 +1,28 @@
 //! What a call leaves in the two lent areas, and the refusal of areas that are too small.
 
-use second::{call, call_on, call_without_answer, call_without_answer_on, Outcome};
+#[path = "common/areas_of_a.rs"]
+mod areas_of_a;
+
+use areas_of_a::{
+    answer_needed, answer_of_a, beyond_stay, refused_unchanged, work_needed, TOO_SMALL,
+};
+use second::{call, call_on, call_without_answer_on, Outcome};
 
 const A: &[u8] = include_bytes!("../../rounds/a.round");
 const CUT: &[u8] = include_bytes!("../../rounds/cut-71.round");
 const EMPTY_ROW: &[u8] = include_bytes!("../../rounds/empty-row.round");
 const MARKED_AND_REJECTED: &[u8] = include_bytes!("../../rounds/marked-and-rejected.round");
 const ALL_EIGHT_TYPES: &[u8] = include_bytes!("../../rounds/all-eight-types.round");
-const TOO_SMALL: Outcome = Outcome::Refused {
-    number: 14,
-    offset: 0,
-};
 
 /// The answer bytes of round A.
-fn answer_of_a() -> Vec<u8> {
-    let mut bytes = vec![0, 0, 1, 4, 1, 1];
-    bytes.extend([0, 0, 0, 0, 0, 0, 2, 0, 0, 0, 0, 0]);
-    bytes.extend([0, 0, 1]);
-    bytes
+fn answer() -> Vec<u8> {
+    answer_of_a(&[0, 0, 1, 4, 1, 1], 6)
 }
 
 #[test]
 fn an_answer_area_of_20_bytes_is_refused_and_21_suffice() {
-    assert_eq!(call(A, 20, 24), TOO_SMALL);
-    assert_eq!(
-        call(A, 21, 24),
-        Outcome::Allotted {
-            offers: 4,
-            answer: answer_of_a()
-        }
-    );
+    assert_eq!(answer().len(), 21);
+    answer_needed(A, answer());
 }
 
 #[test]
@@ -52,8 +45,7 @@ fn every_answer_area_below_3n_and_12m_is_refused() {
 
 #[test]
 fn a_work_area_of_23_bytes_is_refused() {
-    assert_eq!(call(A, 21, 23), TOO_SMALL);
-    assert_eq!(call_without_answer(A, 23), TOO_SMALL);
+    work_needed(A, 21);
 }
 
 #[test]
@@ -74,13 +66,7 @@ fn a_call_without_answer_area_is_asked_only_for_work() {
 #[test]
 fn bytes_beyond_stay() {
     for more in 0..100 {
-        let mut answer = vec![9; 21 + more];
-        let mut work = vec![7; 24 + more];
-        call_on(A, &mut answer, &mut work);
-        assert_eq!(answer[..21], answer_of_a());
-        assert_eq!(answer[21..], vec![9; more]);
-        assert_eq!(work[..24], [0; 24]);
-        assert_eq!(work[24..], vec![7; more]);
+        beyond_stay(A, &answer(), [9, 7], more);
     }
 }
 
@@ -93,12 +79,7 @@ fn a_refusal_changes_neither_area() {
         (CUT, 30, 30),
         (&[], 0, 0),
     ] {
-        let mut answer = vec![9; answer_len];
-        let mut work = vec![7; work_len];
-        let outcome = call_on(file, &mut answer, &mut work);
-        assert!(matches!(outcome, Outcome::Refused { .. }));
-        assert_eq!(answer, vec![9; answer_len]);
-        assert_eq!(work, vec![7; work_len]);
+        refused_unchanged(file, answer_len, work_len);
     }
 }
 

@@ -20,8 +20,8 @@ pub record SeatedAlike (r other : Round) : Type 0 where
   pub types : typesUsed other ≡ typesUsed r
   pub closing : (j : ℕ) → closingPlaces other j ≡ closingPlaces r j ++ replicate 6 0
 
--- the file with the steps of its institutes written as lists passes the same questions, in the same form, means a round with the same candidates and
--- institutes, and seats everyone alike
+-- the file with the steps of its institutes written as lists is not refused, has the same form, means a round with the same candidates and institutes,
+-- and seats everyone alike
 pub record AlikeAsLists (file : List ℕ) : Type 0 where
   pub passing : verdict (asLists file) ≡ passes
   pub form : formOf (asLists file) ≡ formOf file

@@ -74,7 +74,7 @@ fn write_seats(form: Form, holders: &[u16], steps: &[u8], area: &mut [u8])
     }
 }
 
-// The closing places of institute j, so many as there are, from a byte on.
+// The closing places of institute j, twelve or six, from a byte on.
 fn write_institute(
     file: &[u8],
     merits: &[usize],

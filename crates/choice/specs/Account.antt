@@ -1,4 +1,5 @@
--- The account of an institute's choice: what each step did, as it was done (document 01, "One institute chooses"; document 02, Points 1 and 3).
+-- The account of an institute's choice: what each step did, as it was done (document 01, "One institute chooses"; document 02, Points 1, 3
+-- and 7).
 use Prim.Native.Nat.{ℕ, suc, _-_}
 use mathlib.Core.Path.{_≡_}
 use mathlib.Core.Bool.{Bool, false, cond, _||_}

@@ -1,4 +1,4 @@
--- An institute's choice from a set of offers (document 01, "One institute chooses").
+-- An institute's choice from a set of offers (document 01, "One institute chooses"; document 02, Point 7).
 use Prim.Native.Nat.{ℕ, suc, _+_, _-_}
 use mathlib.Core.Bool.{Bool, cond, _&&_}
 use mathlib.Core.List.{List, [], _∷_}

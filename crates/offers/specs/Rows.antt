@@ -28,6 +28,6 @@ unfoldable pub rankIn : List Entry → Entry → ℕ
 rankIn [] e = 0
 rankIn (x ∷ xs) e = let later = suc (rankIn xs e) in cond (sameEntry x e) 0 later
 
--- the category of step k, from 1, of institute j; open for a step that it has not
+-- the category of step k, from 1, of institute j; open for a step behind the last
 abbrev pub categoryAt : Round → ℕ → ℕ → Category
 categoryAt r j k = stepAt (instituteAt r j) (k - 1) .category

@@ -17,7 +17,7 @@ ghost use Rattle.round.specs.Refusal.{verdict};
 ghost use Rattle.round.specs.Read.{asHead};
 ghost use Rattle.probe.specs.Probe.{verdictIn, headWith, bodyFits, placesFit, Chosen};
 
-// The number of the first of questions 1 to 13 that is answered no, and its byte; 0 and 0 where each is answered yes.
+// The number of the first of the questions about a file that is answered no, and its byte; 0 and 0 where each is answered yes.
 #[no_mangle]
 pub extern "C" fn tazbilk_verdict(file: &[u8], result: &mut [u64; 2])
     ensures { λ _. ⌜ now (result .exit) ≡ verdictIn (now (result .entry)) (verdict (now (file .entry))) ⌝ }

@@ -10,7 +10,8 @@ abbrev pub institutesMost : Form → ℕ
 institutesMost Narrow = 32
 institutesMost Wide = 1000
 
--- the kind that a file of the form has for one of the kinds 1 to 4 of document 01: a wide file has 5 for the head's 1 and 6 for a candidate's 3
+-- the kind that the form gives for one of the kinds 1 to 4 of document 01, whatever the policy: a wide file has 5 for the head's 1 and 6 for a
+-- candidate's 3
 abbrev pub formKind : Form → ℕ → ℕ
 formKind Narrow kind = kind
 formKind Wide kind = cond (eqb kind 1) 5 (cond (eqb kind 3) 6 kind)

@@ -7,8 +7,8 @@ use Rattle.round.specs.declared.entry.Category.the-variants.{Open}
 use Rattle.round.specs.declared.entry.Entry.{Entry}
 use Rattle.round.specs.Round.{StepRule, Institute, Candidate, Round}
 
--- what stands beyond the last place; of it only the category of `noStep` is looked at: under policy 0 a seat at step 6 stands for the open entry,
--- though no institute has such a step
+-- what stands beyond the last place; the category of `noStep` counts: under policy 0 a seat at step 6 stands for the open entry, though no institute
+-- has such a step
 abbrev pub noEntry : Entry
 noEntry = record { institute = 0; category = Open }
 

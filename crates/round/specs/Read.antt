@@ -25,7 +25,7 @@ pub record InRange (h : Head) : Type 0 where
   pub types-most : h .types ≤ 8
   pub policy-most : h .policy ≤ 2
 
--- a body of a length that an institute's has: at most 12 whole steps
+-- a body of at most 12 whole steps; that it has one is for question 3
 pub record InstituteBody (h : Head) (body : List ℕ) : Type 0 where
   pub types-most : h .types ≤ 8
   pub steps-most : stepCount h body ≤ 12

@@ -1,4 +1,5 @@
--- Whether a file is refused, by which number and at which byte (document 01, "The questions, in order": 1 to 13).
+-- Whether a file is refused, by which number and at which byte (document 01, "The questions, in order": 1 to 13; document 02, Point 7: 17
+-- and 18).
 use Prim.Native.Nat.{ℕ}
 use mathlib.Core.Bool.{cond}
 use mathlib.Core.List.{List, [], _∷_}

@@ -46,7 +46,7 @@ pub fn seats_size(form: Form, candidates: usize) -> usize
     }
 }
 
-// The kind that a file of the form has for one of the kinds 1 to 4.
+// The kind that the form gives for one of the kinds 1 to 4, whatever the policy.
 pub fn form_kind(form: Form, kind: usize) -> usize
     ensures { λ r. ⌜ r ≡ formKind form kind ⌝ }
 {

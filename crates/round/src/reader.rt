@@ -1,4 +1,4 @@
-// The reader of a round file: questions 1 to 13.
+// The reader of a round file: questions 1 to 13, 17 and 18.
 use crate::form::Form;
 use crate::form::form_of;
 use crate::head::Head;

@@ -1,4 +1,4 @@
--- The review as C and Rust call it: what it says goes out as four numbers (document 02, Points 5 and 6).
+-- The review as C and Rust call it: what it says goes out as four numbers (document 02, Points 5 to 7).
 use Prim.Native.Nat.{ℕ}
 use mathlib.Core.Path.{_≡_}
 use mathlib.Core.List.{List, [], _∷_}
@@ -21,7 +21,7 @@ numbersOf (WrongSeat candidate) = 2 ∷ candidate ∷ 0 ∷ 0 ∷ []
 numbersOf (BetterEntry candidate entry) = 3 ∷ candidate ∷ entry .institute ∷ codeOf (entry .category) ∷ []
 
 -- the list with which the answer area begins after an accepted allotment of the file, whatever areas that call was lent, passes unless the review is
--- refused, which it is for its work area alone
+-- refused
 unfoldable pub UnitsListPasses : List ℕ → List ℕ → List ℕ → Type 0
 UnitsListPasses file list work =
     (answer workThen : List ℕ) → Accepted file answer workThen →

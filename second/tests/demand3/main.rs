@@ -1,5 +1,7 @@
 //! Demand 3 run over thousands of tiny rounds, and the wrong rules it turns back.
 
+#[path = "../common/always.rs"]
+mod always;
 mod arrangements;
 #[path = "../wide/spread.rs"]
 mod spread;
@@ -18,14 +20,12 @@ use second::widening::wide;
 use second::writing::write;
 use second::{call_on, Form, Outcome};
 use spread::{gathered, spread};
-use stability::subset;
 use statements::{
-    any_order, choice_is_one, completion_agrees_in_the_run, completion_is_one,
-    held_and_new_suffice, held_once, stable, truthful, Found,
+    any_order, choice_is_one, completion_agrees_in_the_run, completion_is_one, gives_up,
+    held_and_new_suffice, held_once, same_choice, stable, truthful, Found,
 };
 use std::cell::RefCell;
 use tiny::tiny;
-use words::Words;
 use wrong::{
     AllMarkedFirst, ConsideredByCode, ConsideredTwice, MarkedFirst, NeverMoved, PositionsKept,
     SeatsKept,
@@ -134,26 +134,6 @@ fn statements_1_and_2_hold_of_institutes_far_apart() {
 }
 
 #[test]
-fn statement_3_any_order() {
-    holds_always(|round, random| any_order(round, &Document, random));
-}
-
-#[test]
-fn statement_4_held_and_new_suffice() {
-    holds_always(|round, _| held_and_new_suffice(round, &Document));
-}
-
-#[test]
-fn statement_5_completion_agrees_in_the_run() {
-    holds_always(|round, _| completion_agrees_in_the_run(round, &Document));
-}
-
-#[test]
-fn statement_5_completion_is_one() {
-    holds_always(|round, random| completion_is_one(round, &Document, random));
-}
-
-#[test]
 fn the_choice_is_one() {
     holds_always(|round, random| choice_is_one(round, &Document, random));
 }
@@ -161,25 +141,6 @@ fn the_choice_is_one() {
 #[test]
 fn nobody_is_held_twice() {
     holds_always(|round, _| held_once(round, &Document));
-}
-
-#[test]
-fn the_choice_is_that_of_the_words() {
-    holds_always(|round, random| same_choice(round, &Document, random));
-}
-
-/// That a rule chooses from sets of offers what the words of the document give.
-fn same_choice<R: Rule + ?Sized>(round: &Round, rule: &R, random: &mut Random) -> Found {
-    for institute in 0..round.institutes.len() {
-        let all = statements::lawful_offers(round, institute, random);
-        for bits in 0..1usize << all.len() {
-            let set = subset(&all, bits);
-            if rule.choose(round, institute, &set) != Words.choose(round, institute, &set) {
-                return Err(format!("another choice from {set:?}: {round:?}"));
-            }
-        }
-    }
-    Ok(())
 }
 
 #[test]
@@ -203,15 +164,8 @@ fn the_tiny_rounds_are_contested() {
         let mut process = Process::new(&round, &Document);
         let (mut lost, mut at_six) = (false, false);
         while let Some(&candidate) = process.ready().first() {
-            let before = process.held.clone();
-            let at = process.turn(candidate).institute;
-            let held = |who: usize| {
-                process.held[at]
-                    .iter()
-                    .any(|one| one.offer.candidate == who)
-            };
-            lost |= before[at].iter().any(|one| !held(one.offer.candidate));
-            at_six |= process.held[at].iter().any(|one| one.step == 6);
+            lost |= gives_up(&mut process, candidate);
+            at_six |= process.held.iter().flatten().any(|one| one.step == 6);
         }
         displaced += u64::from(lost);
         sixth += u64::from(at_six);

@@ -3,6 +3,7 @@
 use crate::arrangements::arrangements;
 use crate::stability::{offers_of, rank, subset, unstable};
 use crate::tiny::{lawful_entries, some_row};
+use crate::words::Words;
 use second::choice::{Offer, Rule, Taken};
 use second::offers::{Process, Seat};
 use second::orders::{ended, Order};
@@ -103,6 +104,15 @@ pub fn held_once<R: Rule + ?Sized>(round: &Round, rule: &R) -> Found {
     Ok(())
 }
 
+/// Makes a turn, and tells whether the institute gives somebody up.
+pub fn gives_up<R: Rule + ?Sized>(process: &mut Process<R>, candidate: usize) -> bool {
+    let before = process.held.clone();
+    let at = process.turn(candidate).institute;
+    let now = &process.held[at];
+    let kept = |who: usize| now.iter().any(|one| one.offer.candidate == who);
+    !before[at].iter().all(|one| kept(one.offer.candidate))
+}
+
 /// Statement 5 in the run of the offers: at every turn, the completion takes from all offers made the same offers at the same steps and in the same way as the choice.
 pub fn completion_agrees_in_the_run<R: Rule + ?Sized>(round: &Round, rule: &R) -> Found {
     let mut process = Process::new(round, rule);
@@ -116,7 +126,7 @@ pub fn completion_agrees_in_the_run<R: Rule + ?Sized>(round: &Round, rule: &R) -
 }
 
 /// Every lawful offer to an institute, in a row or not, at most eight of them.
-pub fn lawful_offers(round: &Round, institute: usize, random: &mut Random) -> Vec<Offer> {
+fn lawful_offers(round: &Round, institute: usize, random: &mut Random) -> Vec<Offer> {
     let mut offers = Vec::new();
     for (candidate, one) in round.candidates.iter().enumerate() {
         for entry in lawful_entries(one.code, institute + 1) {
@@ -205,6 +215,20 @@ pub fn choice_is_one<R: Rule + ?Sized>(round: &Round, rule: &R, random: &mut Ran
             let fits = fits(round, institute, &taken);
             if twice(&offers) || !fits || !offers.iter().all(|offer| set.contains(offer)) {
                 return Err(format!("{taken:?} from {set:?}: {round:?}"));
+            }
+        }
+    }
+    Ok(())
+}
+
+/// That a rule chooses from sets of offers what the words of the documents give.
+pub fn same_choice<R: Rule + ?Sized>(round: &Round, rule: &R, random: &mut Random) -> Found {
+    for institute in 0..round.institutes.len() {
+        let all = lawful_offers(round, institute, random);
+        for bits in 0..1usize << all.len() {
+            let set = subset(&all, bits);
+            if rule.choose(round, institute, &set) != Words.choose(round, institute, &set) {
+                return Err(format!("another choice from {set:?}: {round:?}"));
             }
         }
     }

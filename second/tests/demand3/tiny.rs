@@ -178,7 +178,7 @@ fn some_institute(random: &mut Random, types: usize, codes: &[u8], left: &mut us
 }
 
 /// A candidate of one of these codes.
-fn some_candidate(random: &mut Random, m: usize, types: usize, codes: &[u8]) -> Candidate {
+pub fn some_candidate(random: &mut Random, m: usize, types: usize, codes: &[u8]) -> Candidate {
     let code = random.pick(codes);
     Candidate {
         code,

@@ -1,10 +1,15 @@
 //! Document 02, Point 5: the review of hand-made lists, and the wrong reviews that are caught.
 
+#[path = "../common/all_lists.rs"]
+mod all_lists;
 #[path = "../demand3/arrangements.rs"]
 mod arrangements;
+mod cases;
 mod family;
 mod lists;
 mod looks;
+#[path = "../common/own_list.rs"]
+mod own_list;
 mod refusals;
 mod remembered;
 #[path = "../closing/worked.rs"]
@@ -17,28 +22,27 @@ mod stability;
 mod tiny;
 #[path = "../demand3/words.rs"]
 mod words;
-mod worked;
 mod wrong;
+#[path = "../common/wrong_reviews.rs"]
+mod wrong_reviews;
 
+use all_lists::{all_lists, with_pairs, Counts, Paired};
+use cases::cases;
 use family::every_round;
-use lists::{and_some_more, how_many, list_of, of_the_row, pairs_of, Pair};
+use lists::{and_some_more, how_many, of_the_row, pairs_of};
 use looks::{Look, Over};
-use remembered::Remembered;
+use own_list::own_list;
 use rounds::worked;
-use second::answer::answer_of;
-use second::choice::{Document, Rule};
+use second::choice::Document;
 use second::generate::{lawful_round, Class};
-use second::offers::{allot, Seat};
 use second::printing::print_review;
 use second::random::Random;
 use second::reading::{read, Round};
 use second::review::found;
 use second::Review;
 use several::several;
-use stability::unstable;
 use std::process::Command;
 use tiny::tiny;
-use worked::cases;
 
 /// How many tiny rounds, and as many of several types, are run with lists of seats in their rows.
 const ROUNDS: u64 = 3000;
@@ -49,94 +53,11 @@ const ROW_LISTS: usize = 1500;
 /// The most lists of a tiny round that is run with other pairs too.
 const LISTS: usize = 20_000;
 
-/// The list of a round's allotment.
-fn own_list(round: &Round) -> Vec<u8> {
-    let mut answer = answer_of(round, &allot(round, &Document));
-    answer.truncate(2 * round.candidates.len());
-    answer
-}
-
-/// The seats of a list; none where some bytes are neither 0 0 nor an institute and a step.
-fn seats_of(round: &Round, list: &[u8]) -> Option<Vec<Option<Seat>>> {
-    let seat = |pair: &[u8]| match (usize::from(pair[0]), pair[1]) {
-        (0, 0) => Some(None),
-        (institute, step @ 1..=6) if (1..=round.institutes.len()).contains(&institute) => {
-            Some(Some(Seat {
-                institute: institute - 1,
-                step,
-            }))
-        }
-        _ => None,
-    };
-    list.chunks_exact(2).map(seat).collect()
-}
-
-/// Whether a list is stable in the words of demand 3.
-fn stable(round: &Round, rule: &impl Rule, list: &[u8]) -> bool {
-    seats_of(round, list).is_some_and(|seats| unstable(round, rule, &seats).is_none())
-}
-
-/// How many rounds there were, how many lists, how many of them passed, had a wrong seat and left an entry that would be taken, and how many rounds had several lists that passed.
-#[derive(Debug, Default, PartialEq, Eq)]
-struct Counts {
-    rounds: usize,
-    lists: usize,
-    passing: usize,
-    seats: usize,
-    entries: usize,
-    several: usize,
-}
-
-/// Asserts of all lists over these pairs of each round that just the stable ones pass, the round's own among them, and that the review answers what the tests' own review does.
-fn all_lists(rounds: impl Iterator<Item = (Round, Vec<Vec<Pair>>)>) -> Counts {
-    let mut counts = Counts::default();
-    for (round, pairs) in rounds {
-        let rule = &Remembered::default();
-        let mut passing = Vec::new();
-        for number in 0..how_many(&pairs) {
-            let list = &list_of(&pairs, number)[..];
-            let review = found(&round, list);
-            let own = Over {
-                look: Look::Right,
-                round: &round,
-                rule,
-                list,
-            };
-            assert_eq!(review, own.answer(), "{list:?} of {round:?}");
-            let passes = review == Review::Passes;
-            assert_eq!(passes, stable(&round, rule, list), "{list:?} of {round:?}");
-            match review {
-                Review::Passes => passing.push(list.to_vec()),
-                Review::Wrong(_) => counts.seats += 1,
-                _ => counts.entries += 1,
-            }
-        }
-        assert!(passing.contains(&own_list(&round)), "{round:?}");
-        counts.rounds += 1;
-        counts.lists += how_many(&pairs);
-        counts.passing += passing.len();
-        counts.several += usize::from(passing.len() > 1);
-    }
-    counts
-}
-
-/// Rounds with some pairs for each candidate.
-fn with_pairs(
-    rounds: Vec<Round>,
-    pairs: fn(&Round, usize) -> Vec<Pair>,
-) -> impl Iterator<Item = (Round, Vec<Vec<Pair>>)> {
-    rounds.into_iter().map(move |round| {
-        let people = 0..round.candidates.len();
-        let pairs = people.map(|who| pairs(&round, who)).collect();
-        (round, pairs)
-    })
-}
-
 /// The rounds that have at most so many lists, with their pairs.
 fn with_few_lists(
     rounds: impl Iterator<Item = Round>,
     most: usize,
-) -> impl Iterator<Item = (Round, Vec<Vec<Pair>>)> {
+) -> impl Iterator<Item = Paired> {
     rounds.filter_map(move |round| {
         let pairs = pairs_of(&round, most)?;
         Some((round, pairs))
@@ -188,7 +109,7 @@ fn just_the_stable_lists_of_tiny_rounds_pass() {
 #[test]
 fn just_the_stable_lists_of_seats_in_their_rows_pass() {
     let rounds = (0..ROUNDS).map(tiny).chain((0..ROUNDS).map(several));
-    let of_rows = with_pairs(rounds.collect(), of_the_row);
+    let of_rows = with_pairs(rounds, of_the_row);
     let counts = all_lists(of_rows.filter(|(_, pairs)| how_many(pairs) <= ROW_LISTS));
     let due = Counts {
         rounds: 4584,

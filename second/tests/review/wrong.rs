@@ -1,15 +1,11 @@
 //! The wrong reviews, and the lists that catch them.
 
-use crate::lists::{how_many, list_of};
-use crate::looks::{Look, Over};
-use crate::remembered::Remembered;
+use crate::all_lists::Paired;
+use crate::lists::how_many;
+use crate::looks::Look;
 use crate::tiny::tiny;
 use crate::with_few_lists;
-use crate::worked::cases;
-use second::choice::Document;
-use second::reading::read;
-use second::review::found;
-use second::Review;
+use crate::wrong_reviews::{counted, named};
 
 /// How many tiny rounds a wrong review is run over, as far as they have few lists.
 const ROUNDS: u64 = 400;
@@ -17,62 +13,20 @@ const ROUNDS: u64 = 400;
 /// The most lists of such a round.
 const LISTS: usize = 2000;
 
-/// In how many lists of tiny rounds a wrong review answers otherwise, and in how many of these it passes a list that does not pass or does not pass one that does.
-fn counted(look: Look) -> (usize, usize) {
-    let mut counts = (0, 0);
-    for (round, pairs) in with_few_lists((0..ROUNDS).map(tiny), LISTS) {
-        let rule = &Remembered::default();
-        for number in 0..how_many(&pairs) {
-            let list = &list_of(&pairs, number)[..];
-            let wrong = Over {
-                look,
-                round: &round,
-                rule,
-                list,
-            };
-            let both = [found(&round, list), wrong.answer()];
-            let passes = both.map(|review| review == Review::Passes);
-            counts.0 += usize::from(both[0] != both[1]);
-            counts.1 += usize::from(passes[0] != passes[1]);
-        }
-    }
-    counts
+/// The tiny rounds that have few lists, with their pairs.
+fn rounds() -> impl Iterator<Item = Paired> {
+    with_few_lists((0..ROUNDS).map(tiny), LISTS)
 }
 
-/// The worked lists of rounds without step lists, not refused, in which a wrong review answers otherwise.
-fn named(look: Look) -> Vec<String> {
-    let mut names = Vec::new();
-    for case in cases()
-        .iter()
-        .filter(|case| !case.expected.starts_with("refused"))
-    {
-        let round = read(&case.file).expect("a lawful round");
-        if round.policy == 2 {
-            continue;
-        }
-        let wrong = Over {
-            look,
-            round: &round,
-            rule: &Document,
-            list: &case.list,
-        };
-        if wrong.answer() != found(&round, &case.list) {
-            names.push(case.name.clone());
-        }
-    }
-    names
-}
-
-/// Asserts in how many lists, in how many by what passes, and in which worked lists a wrong review is caught.
+/// Asserts in how many lists, in how many by what passes, and in which worked lists of rounds without step lists a wrong review is caught.
 fn caught(look: Look, lists: usize, passing: usize, names: &[&str]) {
-    assert_eq!(counted(look), (lists, passing));
-    assert_eq!(named(look), names);
+    assert_eq!(counted(look, rounds()), [lists, passing]);
+    assert_eq!(named(look, |round| round.policy < 2), names);
 }
 
 #[test]
 fn the_lists_are_these_many() {
-    let counts = with_few_lists((0..ROUNDS).map(tiny), LISTS).map(|(_, pairs)| how_many(&pairs));
-    let counts: Vec<usize> = counts.collect();
+    let counts: Vec<usize> = rounds().map(|(_, pairs)| how_many(&pairs)).collect();
     assert_eq!((counts.len(), counts.iter().sum()), (145, 143_755));
 }
 

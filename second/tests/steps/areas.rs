@@ -1,68 +1,46 @@
 //! What a call leaves in the areas of a round with step lists, and the sizes that question 14 asks for.
 
+#[path = "../common/areas_of_a.rs"]
+mod areas_of_a;
+
 use crate::tiny_lists::tiny_lists;
+use areas_of_a::{answer_needed, answer_of_a, beyond_stay, refused_unchanged, work_needed};
 use second::choice::Document;
 use second::offers::allot;
 use second::printing::print_round;
 use second::widening::wide;
 use second::writing::write;
-use second::{call, call_on, call_without_answer, widened, with_step_lists, Outcome};
+use second::{call_on, widened, with_step_lists};
 
 const A: &[u8] = include_bytes!("../../../rounds/a.round");
-
-/// The refusal of areas that are too small.
-const TOO_SMALL: Outcome = Outcome::Refused {
-    number: 14,
-    offset: 0,
-};
 
 /// File A with step lists.
 fn a() -> Vec<u8> {
     with_step_lists(A).expect("A has a head")
 }
 
-/// The answer bytes of A with step lists: seats, twelve closing places, types.
-fn answer_of_a(seats: &[u8]) -> Vec<u8> {
-    let mut closing = [0; 24];
-    closing[6] = 2;
-    [seats, &closing, &[0, 0, 1]].concat()
+/// The answer bytes of A with step lists.
+fn answer() -> Vec<u8> {
+    answer_of_a(&[0, 0, 1, 4, 1, 1], 12)
 }
 
 #[test]
 fn a_with_step_lists_needs_33_bytes_and_39_in_the_wide_form() {
-    let narrow = answer_of_a(&[0, 0, 1, 4, 1, 1]);
-    let wide = answer_of_a(&[0, 0, 0, 0, 1, 0, 4, 0, 1, 0, 1, 0]);
-    for (file, least, answer) in [(a(), 33, narrow), (widened(&a()), 39, wide)] {
-        for length in 0..least {
-            assert_eq!(call(&file, length, 24), TOO_SMALL, "{length}");
-        }
-        let due = Outcome::Allotted { offers: 4, answer };
-        for length in least..least + 30 {
-            assert_eq!(call(&file, length, 24), due, "{length}");
-        }
-    }
+    let wide = answer_of_a(&[0, 0, 0, 0, 1, 0, 4, 0, 1, 0, 1, 0], 12);
+    assert_eq!([answer().len(), wide.len()], [33, 39]);
+    answer_needed(&a(), answer());
+    answer_needed(&widened(&a()), wide);
 }
 
 #[test]
 fn the_work_area_needs_8n_bytes_as_ever() {
-    for length in 0..24 {
-        assert_eq!(call(&a(), 33, length), TOO_SMALL, "{length}");
-        assert_eq!(call_without_answer(&a(), length), TOO_SMALL, "{length}");
-    }
-    let outcome = call_without_answer(&a(), 24);
-    assert!(matches!(outcome, Outcome::Allotted { offers: 4, .. }));
+    work_needed(&a(), 33);
 }
 
 #[test]
 fn all_answer_bytes_are_written_and_those_beyond_stay() {
     for lent in [0, 1, 9, 255] {
-        let mut answer = vec![lent; 73];
-        let mut work = vec![lent; 64];
-        call_on(&a(), &mut answer, &mut work);
-        assert_eq!(answer[..33], answer_of_a(&[0, 0, 1, 4, 1, 1]));
-        assert_eq!(answer[33..], vec![lent; 40]);
-        assert_eq!(work[..24], [0; 24]);
-        assert_eq!(work[24..], vec![lent; 40]);
+        beyond_stay(&a(), &answer(), [lent; 2], 40);
     }
 }
 
@@ -74,12 +52,7 @@ fn a_refusal_changes_neither_area() {
         (&a(), 33, 23),
         (&a()[..87], 40, 40),
     ] {
-        let mut answer = vec![9; answer_len];
-        let mut work = vec![7; work_len];
-        let outcome = call_on(file, &mut answer, &mut work);
-        assert!(matches!(outcome, Outcome::Refused { .. }));
-        assert_eq!(answer, vec![9; answer_len]);
-        assert_eq!(work, vec![7; work_len]);
+        refused_unchanged(file, answer_len, work_len);
     }
 }
 

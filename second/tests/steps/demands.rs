@@ -1,13 +1,12 @@
 //! Demands 2 and 3 of rounds with step lists.
 
-use crate::stability::subset;
-use crate::statements::{
-    any_order, choice_is_one, completion_agrees_in_the_run, completion_is_one,
-    held_and_new_suffice, held_once, lawful_offers, stable, truthful, Found,
-};
+#[path = "../common/always.rs"]
+mod always;
+
+use crate::statements::{choice_is_one, gives_up, held_once, stable, truthful, Found};
 use crate::tiny_lists::tiny_lists;
 use crate::words::Words;
-use second::choice::{Document, Rule, Way};
+use second::choice::{Document, Way};
 use second::generate::{lawful_round, Class};
 use second::horizontal::use_of;
 use second::offers::{allot, Process, Seat};
@@ -39,49 +38,10 @@ fn statement_2_stable() {
 }
 
 #[test]
-fn statement_3_any_order() {
-    holds_always(|round, random| any_order(round, &Document, random));
-}
-
-#[test]
-fn statement_4_held_and_new_suffice() {
-    holds_always(|round, _| held_and_new_suffice(round, &Document));
-}
-
-#[test]
-fn statement_5_completion_agrees_in_the_run() {
-    holds_always(|round, _| completion_agrees_in_the_run(round, &Document));
-}
-
-#[test]
-fn statement_5_completion_is_one() {
-    holds_always(|round, random| completion_is_one(round, &Document, random));
-}
-
-#[test]
 fn the_choice_is_one_and_nobody_is_held_twice() {
     holds_always(|round, random| {
         choice_is_one(round, &Document, random).and_then(|()| held_once(round, &Document))
     });
-}
-
-/// That a rule chooses from sets of offers what the words of the documents give.
-pub fn same_choice<R: Rule + ?Sized>(round: &Round, rule: &R, random: &mut Random) -> Found {
-    for institute in 0..round.institutes.len() {
-        let all = lawful_offers(round, institute, random);
-        for bits in 0..1usize << all.len() {
-            let set = subset(&all, bits);
-            if rule.choose(round, institute, &set) != Words.choose(round, institute, &set) {
-                return Err(format!("another choice from {set:?}: {round:?}"));
-            }
-        }
-    }
-    Ok(())
-}
-
-#[test]
-fn the_choice_is_that_of_the_words() {
-    holds_always(|round, random| same_choice(round, &Document, random));
 }
 
 #[test]
@@ -156,14 +116,7 @@ fn the_tiny_rounds_hand_vacancies_through_several_steps() {
         let mut process = Process::new(&round, &Document);
         let mut gave_up = false;
         while let Some(&candidate) = process.ready().first() {
-            let before = process.held.clone();
-            let at = process.turn(candidate).institute;
-            let held = |who| {
-                process.held[at]
-                    .iter()
-                    .any(|one| one.offer.candidate == who)
-            };
-            gave_up |= before[at].iter().any(|one| !held(one.offer.candidate));
+            gave_up |= gives_up(&mut process, candidate);
         }
         lost += u64::from(gave_up);
         for (own, held) in round.institutes.iter().zip(&process.held) {

@@ -1,14 +1,14 @@
 //! The reading of files with step lists against one of the tests' own, and the wrong readings that are caught.
 
 use crate::own::{read_by, Way};
-use crate::rounds::folder;
+use crate::rounds::files;
+use crate::wrong_readings::{caught_in, with_readings, Read};
 use second::generate::{
     lawful, steps_boundary, steps_damaged, steps_two_faults, wide_steps_damaged,
     wide_steps_two_faults, Class, STEPS_QUESTIONS,
 };
 use second::random::Random;
-use second::reading::{read, Refusal, Round};
-use std::fs;
+use second::reading::read;
 use std::sync::LazyLock;
 
 const STEPS_A: &[u8] = include_bytes!("../../../rounds/steps-a.round");
@@ -46,32 +46,9 @@ fn edge_files() -> Vec<Vec<u8>> {
         .collect()
 }
 
-/// A file with what it is read as.
-type Read = (Vec<u8>, Result<Round, Refusal>);
-
 /// The lawful, the damaged and the edge files.
-static FILES: LazyLock<[Vec<Read>; 3]> = LazyLock::new(|| {
-    [lawful_files(), damaged_files(), edge_files()].map(|files| {
-        let files = files.into_iter();
-        files.map(|file| (file.clone(), read(&file))).collect()
-    })
-});
-
-/// The worked rounds, lawful or not, with their names.
-fn worked_files() -> Vec<(String, Vec<u8>)> {
-    let mut files: Vec<(String, Vec<u8>)> = fs::read_dir(folder())
-        .expect("the rounds stand beside this package")
-        .map(|file| file.expect("a readable folder").path())
-        .filter(|path| path.extension().is_some_and(|ending| ending == "round"))
-        .map(|path| {
-            let name = path.file_stem().and_then(|name| name.to_str());
-            let name = name.expect("a name").to_string();
-            (name, fs::read(path).expect("a round"))
-        })
-        .collect();
-    files.sort();
-    files
-}
+static FILES: LazyLock<[Vec<Read>; 3]> =
+    LazyLock::new(|| with_readings([lawful_files(), damaged_files(), edge_files()]));
 
 #[test]
 fn the_reading_is_that_of_the_tests_own() {
@@ -82,7 +59,7 @@ fn the_reading_is_that_of_the_tests_own() {
         FILES[set].len()
     });
     assert_eq!(counts, [1530, 5000, 1782]);
-    for (name, file) in worked_files() {
+    for (name, file) in files() {
         assert_eq!(read_by(Way::Right, &file), read(&file), "{name}");
     }
 }
@@ -104,15 +81,7 @@ fn files_with_any_byte_changed_are_read_as_the_tests_own_reading_does() {
 
 /// Asserts in how many lawful, damaged and edge files, and in which worked rounds, a wrong reading gives another round or refusal.
 fn caught(way: Way, counts: [usize; 3], rounds: &[&str]) {
-    let other = |(file, right): &&Read| read_by(way, file) != *right;
-    let found = [0, 1, 2].map(|set| FILES[set].iter().filter(other).count());
-    let in_worked: Vec<String> = worked_files()
-        .into_iter()
-        .filter(|(_, file)| read_by(way, file) != read(file))
-        .map(|(name, _)| name)
-        .collect();
-    let rounds: Vec<String> = rounds.iter().map(|name| name.to_string()).collect();
-    assert_eq!((found, in_worked), (counts, rounds), "{way:?}");
+    caught_in(&FILES, way, counts, rounds);
 }
 
 #[test]

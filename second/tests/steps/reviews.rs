@@ -1,19 +1,16 @@
 //! Reviews of lists of rounds with step lists, and the wrong reviews that are caught.
 
-use crate::cases::cases;
-use crate::lists::{how_many, list_of, Pair};
-use crate::looks::{Look, Over};
-use crate::remembered::Remembered;
-use crate::stability::unstable;
+use crate::all_lists::{all_lists, with_pairs, Counts, Paired};
+use crate::lists::{how_many, Pair};
+use crate::looks::Look;
+use crate::own_list::own_list;
 use crate::tiny_lists::tiny_lists;
-use second::answer::answer_of;
-use second::choice::Document;
+use crate::wrong_reviews::{counted, named};
 use second::generate::{
     lawful, lawful_round, steps_damaged, wide_steps_damaged, Class, STEPS_QUESTIONS,
 };
-use second::offers::{allot, Seat};
 use second::random::Random;
-use second::reading::{read, Round};
+use second::reading::Round;
 use second::review::found;
 use second::widening::{wide, widened, widened_list};
 use second::writing::write;
@@ -52,83 +49,36 @@ fn and_some_more(round: &Round, candidate: usize) -> Vec<Pair> {
     pairs
 }
 
-/// The list of a round's allotment.
-fn own_list(round: &Round) -> Vec<u8> {
-    let mut answer = answer_of(round, &allot(round, &Document));
-    answer.truncate(round.form.seat_bytes() * round.candidates.len());
-    answer
-}
-
-/// Whether a narrow list is stable in the words of demand 3, a step that is not listed being no seat of the row.
-fn stable(round: &Round, rule: &Remembered, list: &[u8]) -> bool {
-    let seat = |pair: &[u8]| match (usize::from(pair[0]), pair[1]) {
-        (0, 0) => Some(None),
-        (institute, step) if (1..=round.institutes.len()).contains(&institute) => {
-            let listed = 1..=round.institutes[institute - 1].steps.len() as u8;
-            let institute = institute - 1;
-            let seat = Seat { institute, step };
-            listed.contains(&step).then_some(Some(seat))
-        }
-        _ => None,
-    };
-    let seats: Option<Vec<Option<Seat>>> = list.chunks_exact(2).map(seat).collect();
-    seats.is_some_and(|seats| unstable(round, rule, &seats).is_none())
-}
-
 /// The tiny rounds that have at most so many lists over these pairs, with the pairs of each candidate.
 fn with_few_lists(
     seeds: u64,
     most: usize,
     pairs: fn(&Round, usize) -> Vec<Pair>,
-) -> impl Iterator<Item = (Round, Vec<Vec<Pair>>)> {
-    let rounds = (0..seeds).map(tiny_lists).map(move |round| {
-        let people = 0..round.candidates.len();
-        let pairs: Vec<Vec<Pair>> = people.map(|who| pairs(&round, who)).collect();
-        (round, pairs)
-    });
+) -> impl Iterator<Item = Paired> {
+    let rounds = with_pairs((0..seeds).map(tiny_lists), pairs);
     rounds.filter(move |(_, pairs)| how_many(pairs) <= most)
 }
 
-/// Asserts of all lists of these rounds that just the stable ones pass, the round's own among them, and that the review answers what the tests' own review does; counts the lists that pass, have a wrong seat and leave an entry that would be taken.
-fn all_lists(rounds: impl Iterator<Item = (Round, Vec<Vec<Pair>>)>) -> [usize; 3] {
-    let mut counts = [0; 3];
-    for (round, pairs) in rounds {
-        let rule = &Remembered::default();
-        let mut own_passes = false;
-        for number in 0..how_many(&pairs) {
-            let list = &list_of(&pairs, number)[..];
-            let review = found(&round, list);
-            let own = Over {
-                look: Look::Right,
-                round: &round,
-                rule,
-                list,
-            };
-            assert_eq!(review, own.answer(), "{list:?} of {round:?}");
-            let passes = review == Review::Passes;
-            assert_eq!(passes, stable(&round, rule, list), "{list:?} of {round:?}");
-            own_passes |= passes && list == own_list(&round);
-            counts[match review {
-                Review::Passes => 0,
-                Review::Wrong(_) => 1,
-                _ => 2,
-            }] += 1;
-        }
-        assert!(own_passes, "{round:?}");
-    }
-    counts
+/// The tiny rounds that have few lists, with pairs in the rows and some more.
+fn some_rounds() -> impl Iterator<Item = Paired> {
+    with_few_lists(600, 2 * LISTS, and_some_more)
+}
+
+/// Asserts that more than so many lists pass, as many have a wrong seat, and as many leave an entry that would be taken.
+fn more_than(least: usize, counts: &Counts) {
+    let each = [counts.passing, counts.seats, counts.entries];
+    assert!(each.iter().all(|&count| count > least), "{counts:?}");
 }
 
 #[test]
 fn just_the_stable_lists_of_seats_in_their_rows_pass() {
-    let counts = all_lists(with_few_lists(2000, LISTS, of_the_row));
-    assert!(counts.iter().all(|&count| count > 1500), "{counts:?}");
+    let rounds = with_few_lists(2000, LISTS, of_the_row);
+    more_than(1500, &all_lists(rounds));
 }
 
 #[test]
 fn just_the_stable_lists_pass() {
-    let counts = all_lists(with_few_lists(600, 2 * LISTS, and_some_more));
-    assert!(counts.iter().all(|&count| count > 150), "{counts:?}");
+    more_than(150, &all_lists(some_rounds()));
 }
 
 #[test]
@@ -227,61 +177,17 @@ fn a_file_that_is_not_allotted_is_not_reviewed() {
     }
 }
 
-/// In how many of the lists of tiny rounds a wrong review answers otherwise, in how many of these by passing, and in which worked lists.
-fn counted(look: Look) -> ([usize; 2], Vec<String>) {
-    let mut counts = [0; 2];
-    for (round, pairs) in with_few_lists(600, 2 * LISTS, and_some_more) {
-        let rule = &Remembered::default();
-        for number in 0..how_many(&pairs) {
-            let list = &list_of(&pairs, number)[..];
-            let wrong = Over {
-                look,
-                round: &round,
-                rule,
-                list,
-            };
-            let both = [found(&round, list), wrong.answer()];
-            let passes = both.map(|review| review == Review::Passes);
-            counts[0] += usize::from(both[0] != both[1]);
-            counts[1] += usize::from(passes[0] != passes[1]);
-        }
-    }
-    (counts, named(look))
-}
-
-/// The worked lists of rounds with step lists to which a wrong review gives another answer.
-fn named(look: Look) -> Vec<String> {
-    let mut names = Vec::new();
-    for case in cases() {
-        let Ok(round) = read(&case.file) else {
-            continue;
-        };
-        if round.policy != 2 || case.expected.starts_with("refused") {
-            continue;
-        }
-        let wrong = Over {
-            look,
-            round: &round,
-            rule: &Document,
-            list: &case.list,
-        };
-        if wrong.answer() != found(&round, &case.list) {
-            names.push(case.name);
-        }
-    }
-    names
-}
-
-/// Asserts in how many lists, in how many by passing, and in which worked lists a wrong review is caught.
+/// Asserts in how many lists, in how many by passing, and in which worked lists of rounds with step lists a wrong review is caught.
 fn caught(look: Look, counts: [usize; 2], names: &[&str]) {
     let names: Vec<String> = names.iter().map(|name| name.to_string()).collect();
-    assert_eq!(counted(look), (counts, names), "{look:?}");
+    let found = counted(look, some_rounds());
+    let worked = named(look, |round| round.policy == 2);
+    assert_eq!((found, worked), (counts, names), "{look:?}");
 }
 
 #[test]
 fn the_lists_are_these_many() {
-    let lists = with_few_lists(600, 2 * LISTS, and_some_more);
-    let counts: Vec<usize> = lists.map(|(_, pairs)| how_many(&pairs)).collect();
+    let counts: Vec<usize> = some_rounds().map(|(_, pairs)| how_many(&pairs)).collect();
     assert_eq!((counts.len(), counts.iter().sum::<usize>()), (293, 163_031));
 }
 

@@ -1,9 +1,9 @@
 //! Tiny rounds with step lists: 2 to 5 candidates, 1 or 2 institutes, 0 to 2 types, lists of up to six short steps and now and then of twelve.
 
-use crate::tiny::{lawful_entries, some_row};
+use crate::tiny::some_candidate;
 use second::form::Form;
 use second::random::Random;
-use second::reading::{Candidate, Institute, Round};
+use second::reading::{Institute, Round};
 use second::steps::ListedStep;
 
 /// The codes in play in a round.
@@ -80,16 +80,6 @@ fn some_reserved(random: &mut Random, types: usize, positions: usize) -> Vec<usi
         }
     }
     reserved
-}
-
-/// A candidate of one of these codes.
-fn some_candidate(random: &mut Random, m: usize, types: usize, codes: &[u8]) -> Candidate {
-    let code = random.pick(codes);
-    Candidate {
-        code,
-        marks: random.from_to(0, (1 << types) - 1) as u8,
-        row: some_row(random, lawful_entries(code, m)),
-    }
 }
 
 /// A merit list, now and then without a candidate.

@@ -1,14 +1,13 @@
 //! Wrong ways with step lists, each as a rule of its own, and what catches them.
 
-use crate::demands::same_choice;
-use crate::rounds::folder;
+use crate::rounds::rounds_that;
+use crate::statements::same_choice;
 use crate::tiny_lists::tiny_lists;
 use second::choice::{filling, raising, Document, Offer, Rule, Step, Taken, Way};
 use second::offers::allot;
 use second::random::Random;
-use second::reading::{read, Round};
+use second::reading::Round;
 use second::steps::ListedStep;
-use std::fs;
 
 /// How many tiny rounds a wrong rule is run over.
 const ROUNDS: u64 = 1500;
@@ -186,22 +185,6 @@ impl Rule for Lists {
     }
 }
 
-/// The worked rounds with step lists that are lawful, with their names.
-fn worked() -> Vec<(String, Round)> {
-    let mut rounds: Vec<(String, Round)> = fs::read_dir(folder())
-        .expect("the rounds stand beside this package")
-        .map(|file| file.expect("a readable folder").path())
-        .filter(|path| path.extension().is_some_and(|ending| ending == "round"))
-        .filter_map(|path| {
-            let name = path.file_stem()?.to_str()?.to_string();
-            let round = read(&fs::read(path).ok()?).ok()?;
-            (round.policy == 2).then_some((name, round))
-        })
-        .collect();
-    rounds.sort_by(|one, other| one.0.cmp(&other.0));
-    rounds
-}
-
 /// In how many tiny rounds a way chooses otherwise from some set, in how many it allots otherwise, and in which worked rounds.
 fn counted(lists: Lists) -> ([usize; 2], Vec<String>) {
     let mut counts = [0; 2];
@@ -211,7 +194,7 @@ fn counted(lists: Lists) -> ([usize; 2], Vec<String>) {
         counts[0] += usize::from(chooses.is_err());
         counts[1] += usize::from(allot(&round, &lists) != allot(&round, &Document));
     }
-    let rounds = worked().into_iter();
+    let rounds = rounds_that(|round| round.policy == 2).into_iter();
     let names = rounds
         .filter(|(_, round)| allot(round, &lists) != allot(round, &Document))
         .map(|(name, _)| name);
@@ -224,6 +207,15 @@ fn caught(lists: Lists, counts: [usize; 2], names: &[&str]) {
     assert_eq!(counted(lists), (counts, names), "{lists:?}");
 }
 
+/// The worked rounds in which it makes a difference that vacancies are handed on.
+const HANDED_ON: [&str; 5] = [
+    "steps-chain",
+    "steps-only-handed",
+    "steps-past-one",
+    "steps-twelve",
+    "steps-two-to-one",
+];
+
 #[test]
 fn the_right_way_is_not_caught() {
     caught(Lists::Right, [0, 0], &[]);
@@ -231,17 +223,7 @@ fn the_right_way_is_not_caught() {
 
 #[test]
 fn handing_on_nothing_is_caught() {
-    caught(
-        Lists::NothingHanded,
-        [849, 539],
-        &[
-            "steps-chain",
-            "steps-only-handed",
-            "steps-past-one",
-            "steps-twelve",
-            "steps-two-to-one",
-        ],
-    );
+    caught(Lists::NothingHanded, [849, 539], &HANDED_ON);
 }
 
 #[test]
@@ -303,17 +285,7 @@ fn considering_a_category_once_is_caught() {
 
 #[test]
 fn going_by_categories_is_caught() {
-    caught(
-        Lists::InCategoryOrder,
-        [848, 488],
-        &[
-            "steps-chain",
-            "steps-only-handed",
-            "steps-past-one",
-            "steps-twelve",
-            "steps-two-to-one",
-        ],
-    );
+    caught(Lists::InCategoryOrder, [848, 488], &HANDED_ON);
 }
 
 #[test]

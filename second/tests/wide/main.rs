@@ -1,9 +1,13 @@
 //! Document 02, Point 6: rounds of the wide form, and the wrong readings that are caught.
 
+#[path = "../common/areas_of_a.rs"]
+mod areas_of_a;
 #[allow(dead_code)]
-#[path = "../review/worked.rs"]
+#[path = "../review/cases.rs"]
 mod cases;
 mod own;
+#[path = "../common/own_list.rs"]
+mod own_list;
 mod program;
 mod reviews;
 #[path = "../closing/worked.rs"]
@@ -16,7 +20,10 @@ mod stability;
 #[path = "../demand3/tiny.rs"]
 mod tiny;
 mod wrong;
+#[path = "../common/wrong_readings.rs"]
+mod wrong_readings;
 
+use areas_of_a::{answer_needed, answer_of_a, beyond_stay, refused_unchanged, work_needed};
 use rounds::worked;
 use second::choice::Document;
 use second::generate::{lawful_round, Class};
@@ -26,18 +33,12 @@ use second::printing::print_round;
 use second::reading::{read, Round};
 use second::widening::{wide, widened, widened_list};
 use second::writing::write;
-use second::{call, call_on, call_without_answer, Form, Outcome};
+use second::{call, call_on, Form, Outcome};
 use several::several;
 use spread::{spread, spread_allotment};
 use tiny::tiny;
 
 const A: &[u8] = include_bytes!("../../../rounds/a.round");
-
-/// The refusal of areas that are too small.
-const TOO_SMALL: Outcome = Outcome::Refused {
-    number: 14,
-    offset: 0,
-};
 
 /// Lawful narrow rounds of every class, tiny ones, ones of several types and worked ones.
 fn narrow_rounds() -> impl Iterator<Item = Round> {
@@ -124,49 +125,25 @@ fn orders_of_widened_rounds_end_alike() {
 
 /// The answer bytes of round A in the wide form.
 fn answer_of_wide_a() -> Vec<u8> {
-    let mut bytes = vec![0, 0, 0, 0, 1, 0, 4, 0, 1, 0, 1, 0];
-    bytes.extend([0, 0, 0, 0, 0, 0, 2, 0, 0, 0, 0, 0]);
-    bytes.extend([0, 0, 1]);
-    bytes
+    answer_of_a(&[0, 0, 0, 0, 1, 0, 4, 0, 1, 0, 1, 0], 6)
 }
 
 #[test]
 fn an_answer_area_of_26_bytes_is_refused_and_27_suffice() {
-    let file = widened(A);
-    for length in 0..27 {
-        assert_eq!(call(&file, length, 24), TOO_SMALL, "{length}");
-    }
-    let due = Outcome::Allotted {
-        offers: 4,
-        answer: answer_of_wide_a(),
-    };
-    for length in 27..60 {
-        assert_eq!(call(&file, length, 24), due, "{length}");
-    }
+    assert_eq!(answer_of_wide_a().len(), 27);
+    answer_needed(&widened(A), answer_of_wide_a());
 }
 
 #[test]
 fn the_work_area_needs_8n_bytes_as_ever() {
-    let file = widened(A);
-    for length in 0..24 {
-        assert_eq!(call(&file, 27, length), TOO_SMALL, "{length}");
-        assert_eq!(call_without_answer(&file, length), TOO_SMALL, "{length}");
-    }
-    let outcome = call_without_answer(&file, 24);
-    assert!(matches!(outcome, Outcome::Allotted { offers: 4, .. }));
+    work_needed(&widened(A), 27);
 }
 
 #[test]
 fn all_answer_bytes_are_written_and_those_beyond_stay() {
     let file = widened(A);
-    for (lent, more) in [0, 1, 9, 255].map(|lent| (lent, 40)) {
-        let mut answer = vec![lent; 27 + more];
-        let mut work = vec![lent; 24 + more];
-        call_on(&file, &mut answer, &mut work);
-        assert_eq!(answer[..27], answer_of_wide_a());
-        assert_eq!(answer[27..], vec![lent; more]);
-        assert_eq!(work[..24], [0; 24]);
-        assert_eq!(work[24..], vec![lent; more]);
+    for lent in [0, 1, 9, 255] {
+        beyond_stay(&file, &answer_of_wide_a(), [lent; 2], 40);
     }
 }
 
@@ -179,12 +156,7 @@ fn a_refusal_of_a_wide_round_changes_neither_area() {
         (&file, 27, 23),
         (&file[..75], 40, 40),
     ] {
-        let mut answer = vec![9; answer_len];
-        let mut work = vec![7; work_len];
-        let outcome = call_on(file, &mut answer, &mut work);
-        assert!(matches!(outcome, Outcome::Refused { .. }));
-        assert_eq!(answer, vec![9; answer_len]);
-        assert_eq!(work, vec![7; work_len]);
+        refused_unchanged(file, answer_len, work_len);
     }
 }
 

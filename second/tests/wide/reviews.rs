@@ -1,28 +1,21 @@
 //! Reviews of wide lists.
 
+use crate::own_list::own_list;
 use crate::spread::spread;
 use crate::stability::unstable;
 use crate::tiny::tiny;
-use second::answer::answer_of;
 use second::choice::Document;
 use second::generate::{lawful, lawful_round, wide_damaged, Class};
 use second::list::seat_bytes;
-use second::offers::{allot, Seat};
+use second::offers::Seat;
 use second::random::Random;
 use second::reading::{Round, OPEN};
-use second::review::{found, list_bytes};
+use second::review::found;
 use second::widening::{wide, widened, widened_list};
 use second::writing::write;
 use second::{review, Review};
 
 const A: &[u8] = include_bytes!("../../../rounds/a.round");
-
-/// The list of a round's allotment.
-fn own_list(round: &Round) -> Vec<u8> {
-    let mut answer = answer_of(round, &allot(round, &Document));
-    answer.truncate(list_bytes(round));
-    answer
-}
 
 /// The bytes of a seat of a round, institute counted from 0.
 pub fn seat(round: &Round, institute: usize, step: u8) -> Vec<u8> {

@@ -1,12 +1,13 @@
 //! Wrong ways with the wide form, and the files, lists and inputs that catch them.
 
+use crate::areas_of_a::TOO_SMALL;
 use crate::cases::{cases, Case};
 use crate::own::{read_by, Way};
 use crate::reviews::changed;
-use crate::rounds::folder;
+use crate::rounds::files;
 use crate::spread::spread;
 use crate::tiny::tiny;
-use crate::TOO_SMALL;
+use crate::wrong_readings::{caught_in, named, names, with_readings, Read};
 use second::choice::Document;
 use second::generate::{
     boundary, damaged, lawful, lawful_round, two_faults, wide_boundary, wide_damaged,
@@ -16,12 +17,11 @@ use second::list::seat_bytes;
 use second::offers::allot;
 use second::printing::{print, print_round};
 use second::random::Random;
-use second::reading::{read, Refusal, Round};
+use second::reading::{read, Round};
 use second::review::found;
 use second::widening::widened;
 use second::writing::write;
 use second::{call, call_on, review, Form, Review};
-use std::fs;
 use std::sync::LazyLock;
 
 const A: &[u8] = include_bytes!("../../../rounds/a.round");
@@ -56,31 +56,6 @@ fn edge_files() -> Vec<Vec<u8>> {
         .collect()
 }
 
-/// The worked rounds, lawful or not, with their names.
-fn worked_files() -> Vec<(String, Vec<u8>)> {
-    let mut files: Vec<(String, Vec<u8>)> = fs::read_dir(folder())
-        .expect("the rounds stand beside this package")
-        .map(|file| file.expect("a readable folder").path())
-        .filter(|path| path.extension().is_some_and(|ending| ending == "round"))
-        .map(|path| {
-            let name = path.file_stem().and_then(|name| name.to_str());
-            let name = name.expect("a name").to_string();
-            (name, fs::read(path).expect("a round"))
-        })
-        .collect();
-    files.sort();
-    files
-}
-
-/// The names of the worked rounds of which something is so.
-fn named(so: impl Fn(&[u8]) -> bool) -> Vec<String> {
-    let files = worked_files().into_iter();
-    files
-        .filter(|(_, file)| so(file))
-        .map(|(name, _)| name)
-        .collect()
-}
-
 #[test]
 fn the_reading_is_that_of_the_tests_own() {
     let narrow = (0..1300).map(|seed| damaged((seed % 13) as u8 + 1, seed).file);
@@ -94,7 +69,7 @@ fn the_reading_is_that_of_the_tests_own() {
         .chain(damaged_files())
         .chain(narrow)
         .chain(edges.map(|(_, file, _)| file))
-        .chain(worked_files().into_iter().map(|(_, file)| file));
+        .chain(files().into_iter().map(|(_, file)| file));
     let mut count = 0;
     for file in files {
         assert_eq!(read(&file), read_by(Way::Right, &file));
@@ -103,28 +78,13 @@ fn the_reading_is_that_of_the_tests_own() {
     assert_eq!(count, 6914);
 }
 
-/// A file with what it is read as.
-type Read = (Vec<u8>, Result<Round, Refusal>);
-
 /// The lawful, the damaged and the edge files.
-static FILES: LazyLock<[Vec<Read>; 3]> = LazyLock::new(|| {
-    [lawful_files(), damaged_files(), edge_files()].map(|files| {
-        let files = files.into_iter();
-        files.map(|file| (file.clone(), read(&file))).collect()
-    })
-});
-
-/// A list of names.
-fn names(names: &[&str]) -> Vec<String> {
-    names.iter().map(|name| name.to_string()).collect()
-}
+static FILES: LazyLock<[Vec<Read>; 3]> =
+    LazyLock::new(|| with_readings([lawful_files(), damaged_files(), edge_files()]));
 
 /// Asserts in how many lawful, damaged and edge files, and in which worked rounds, a wrong reading gives another round or refusal.
 fn caught(way: Way, counts: [usize; 3], rounds: &[&str]) {
-    let other = |(file, right): &&Read| read_by(way, file) != *right;
-    let found = [0, 1, 2].map(|set| FILES[set].iter().filter(other).count());
-    let in_worked = named(|file| read_by(way, file) != read(file));
-    assert_eq!((found, in_worked), (counts, names(rounds)));
+    caught_in(&FILES, way, counts, rounds);
 }
 
 #[test]
