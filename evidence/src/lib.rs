@@ -1,5 +1,6 @@
 //! The unit and the second program on the same rounds: compared, and timed.
 
+pub mod against;
 pub mod area;
 pub mod call;
 pub mod choice;
@@ -22,6 +23,7 @@ pub mod review;
 pub mod reviews;
 pub mod rewritten;
 pub mod shapes;
+pub mod shared;
 pub mod some_steps;
 pub mod sort;
 pub mod stack;
@@ -31,5 +33,6 @@ pub mod table;
 pub mod tally;
 pub mod telling;
 pub mod timing;
+pub mod turns;
 pub mod verdict;
 pub mod widening;

@@ -166,7 +166,7 @@ fn entries_above(file: &[u8], list: &[u8]) -> usize {
 }
 
 /// The means of medians and bests, and all calls together.
-fn mean(times: &[Time]) -> Time {
+pub fn mean(times: &[Time]) -> Time {
     let count = times.len() as f64;
     Time {
         median: times.iter().map(|time| time.median).sum::<f64>() / count,

@@ -315,6 +315,25 @@ pub fn alike(n: usize) -> Round {
     }
 }
 
+/// A round of n candidates with empty rows at one institute with one open position.
+pub fn empty_rows(n: usize) -> Round {
+    let mut institute = bare(0);
+    put(&mut institute, usize::from(OPEN), 1, Vec::new());
+    let candidate = Candidate {
+        code: OPEN,
+        marks: 0,
+        row: Vec::new(),
+    };
+    Round {
+        form: Form::Narrow,
+        types: 0,
+        policy: 0,
+        institutes: vec![institute],
+        candidates: vec![candidate; n],
+        merit: vec![(0..n).collect()],
+    }
+}
+
 /// The marks at a merit place of the chain: as many as a type has positions of types 1 and 2, as many of types 2 and 3 and so on to type 8 fill types 1 to 7, half as many of types 8 and 1 half of type 8; then the other half, of type 1 alone, each move one holder of every type, and everybody behind them searches all eight in vain.
 fn chain_marks(place: usize, each: usize) -> u8 {
     match 2 * place / each {

@@ -1,5 +1,6 @@
 //! What was measured, as a Markdown page.
 
+use crate::against::Compared;
 use crate::measure::Measured;
 use std::fmt::Write;
 
@@ -8,7 +9,8 @@ fn short(number: f64) -> String {
     match number {
         n if n >= 100.0 => format!("{n:.0}"),
         n if n >= 10.0 => format!("{n:.1}"),
-        n => format!("{n:.2}"),
+        n if n >= 1.0 => format!("{n:.2}"),
+        n => format!("{n:.3}"),
     }
 }
 
@@ -38,6 +40,23 @@ fn table(made: &str, rows: &[Measured]) -> String {
         );
     }
     text
+}
+
+/// The head of the table of an older archive and the new one.
+pub const AGAINST: &str =
+    "| class | old, best µs | new, best µs | new / old | old, median µs | new, median µs | new / old |\n\
+     |---|---:|---:|---:|---:|---:|---:|";
+
+/// The line of a class in that table.
+pub fn against(row: &Compared) -> String {
+    let [old, new] = row.times;
+    let both = |old: f64, new: f64| format!("{} | {} | {:.3}", short(old), short(new), new / old);
+    format!(
+        "| {} | {} | {} |",
+        row.name,
+        both(old.best, new.best),
+        both(old.median, new.median)
+    )
 }
 
 /// The name of the processor, where the system tells it.

@@ -11,6 +11,18 @@ pub struct Time {
     pub calls: usize,
 }
 
+impl Time {
+    /// The median and the best of these times of one call, each taken over so many at once.
+    pub fn of(mut times: Vec<f64>, at_once: usize) -> Self {
+        times.sort_by(f64::total_cmp);
+        Time {
+            median: times[times.len() / 2],
+            best: times[0],
+            calls: times.len() * at_once,
+        }
+    }
+}
+
 /// Calls shorter than this are timed several at once.
 const SHORTEST: Duration = Duration::from_micros(100);
 
@@ -28,10 +40,5 @@ pub fn time<T>(budget: Duration, mut call: impl FnMut() -> T) -> Time {
         }
         times.push(before.elapsed().as_secs_f64() * 1e6 / at_once as f64);
     }
-    times.sort_by(f64::total_cmp);
-    Time {
-        median: times[times.len() / 2],
-        best: times[0],
-        calls: times.len() * at_once,
-    }
+    Time::of(times, at_once)
 }

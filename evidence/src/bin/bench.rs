@@ -1,9 +1,12 @@
-//! Times the unit and the second program on the same files: `bench PAGE PLOT`, `bench --stack` for the stack alone, or
-//! `bench --file CLASS SEED`, which writes a file of a class to standard output.
+//! Times the unit and the second program on the same files: `bench PAGE PLOT`, `bench --stack` for the stack alone,
+//! `bench --file CLASS SEED`, which writes a file of a class to standard output, or `bench --against FOLDER`, which times an older
+//! archive and the new one, linked as the shared objects of a folder.
 
+use evidence::against::{self, Pair, PLACES};
 use evidence::files::Made;
 use evidence::measure::{classes, growth, lengthening, reviews};
 use evidence::measure::{measure, measure_review, Measured};
+use evidence::shared::Shared;
 use evidence::{plot, stack, table};
 use std::io::Write;
 use std::path::Path;
@@ -39,6 +42,36 @@ fn file_of(name: &str, seed: &str) -> Option<Vec<u8>> {
     Some(made.file(seed))
 }
 
+/// Opens a shared object, or says why it cannot be.
+fn opened(path: &str) -> Option<Shared> {
+    Shared::open(path)
+        .inspect_err(|reason| eprintln!("not opened: {path} ({reason})"))
+        .ok()
+}
+
+/// The older archive and the new one at each place.
+fn pairs(folder: &str) -> Option<Vec<Pair>> {
+    let at = |name, place| opened(&format!("{folder}/{name}-{place}.so"));
+    (PLACES.iter())
+        .map(|place| Some([at("old", place)?, at("new", place)?]))
+        .collect()
+}
+
+/// Times an older archive and the new one, tells each class and where the answers differ, and whether they nowhere do.
+fn alike(pairs: &[Pair]) -> bool {
+    println!("{}", table::AGAINST);
+    let mut differing = 0;
+    for row in against::measure(pairs) {
+        println!("{}", table::against(&row));
+        for number in &row.differing {
+            eprintln!("the answers differ: {}, file {number}", row.name);
+        }
+        differing += row.differing.len();
+    }
+    println!("\nfiles on which the answers differ: {differing}");
+    differing == 0
+}
+
 /// Writes a file, says where, and tells whether it could.
 fn put(path: &str, text: &str) -> bool {
     let written = std::fs::write(path, text);
@@ -64,6 +97,7 @@ fn main() -> ExitCode {
                 false
             }
         },
+        ["--against", folder] => pairs(folder).is_some_and(|pairs| alike(&pairs)),
         [page, picture] => {
             let (classes, growth) = (measured(classes(), measure), measured(growth(), measure));
             let lengthening = measured(lengthening(), measure);
@@ -76,7 +110,7 @@ fn main() -> ExitCode {
             put(page, &text) && put(picture, &plot::plot(&growth))
         }
         _ => {
-            eprintln!("bench PAGE PLOT | bench --stack | bench --file CLASS SEED");
+            eprintln!("bench PAGE PLOT | bench --stack | bench --file CLASS SEED | bench --against FOLDER");
             return ExitCode::from(2);
         }
     };
