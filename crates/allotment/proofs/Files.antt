@@ -6,7 +6,6 @@ pub mod Bodies
 pub mod AlikeRounds
 pub mod AsLists
 pub mod Promised
-pub mod Returns
 pub mod Closing
 pub mod Putting
 pub mod Answering

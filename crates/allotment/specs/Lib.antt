@@ -5,4 +5,3 @@ pub mod Types
 pub mod Rewritten
 pub mod Promise
 pub mod Writing
-pub mod Handing

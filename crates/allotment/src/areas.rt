@@ -1,26 +1,31 @@
 // The bytes of the answer area: the seats, then the closing places, then the types used.
-use crate::closing::closing_places;
 use crate::sizes::closing_count;
 use crate::sizes::closing_width;
+use choice::account::account_table;
+use offers::accounts::account_anew;
+use offers::accounts::seats_wanted;
+use round::clearing::zeros;
 use round::form::Form;
 use round::form::seats_size;
-use round::head::Head;
 use round::head::own_steps;
+use round::opened::Opened;
 use round::word::long;
 ghost use mathlib.Core.Path.{_≡_};
 ghost use mathlib.Core.List.{_++_};
 ghost use Rattle.round.specs.declared.form.Form.the-variants.{Narrow, Wide};
 ghost use Prim.Native.Nat.{_+_, _*_, _<_, _≤_};
-ghost use lib.ListN.{length, drop};
+ghost use lib.ListN.{length, drop, replicate};
 ghost use lib.Seq.{sets};
 ghost use Rattle.round.specs.Form.{institutesMost, seatWidth};
 ghost use Rattle.round.specs.Lists.{tabulate, joined};
-ghost use Rattle.round.specs.Records.{formOf, headOf, ownSteps};
-ghost use Rattle.round.specs.Read.{asHead};
-ghost use Rattle.round.specs.Reading.{roundOf};
+ghost use Rattle.round.specs.Round.{Round};
+ghost use Rattle.round.specs.Opened.{AtHand, openedRound};
+ghost use Rattle.offers.specs.Process.{seats, typesUsed};
+ghost use Rattle.offers.specs.Held.{HeldIn};
+ghost use Rattle.offers.specs.Accounts.{SeatsWanted};
 ghost use Rattle.offers.specs.Areas.{wordBytes, seatBytes};
 ghost use Rattle.allotment.specs.Areas.{closingWidth, closingBytes, answerBytes, answerSize};
-ghost use Rattle.allotment.specs.Writing.{heldBytes, HoldersFew, AnswerKnown, ClosingKnown};
+ghost use Rattle.allotment.specs.Writing.{heldBytes, HoldersFew, closingsIn};
 
 // A two-byte number, little-endian.
 fn write_word(area: &mut [u8], at: usize, x: usize)
@@ -74,61 +79,87 @@ fn write_seats(form: Form, holders: &[u16], steps: &[u8], area: &mut [u8])
     }
 }
 
-// The closing places of institute j, twelve or six, from a byte on.
-fn write_institute(
-    file: &[u8],
-    merits: &[usize],
-    holders: &[u16],
-    steps: &[u8],
-    types: &[u8],
-    j: usize,
-    listed: bool,
-    area: &mut [u8],
-    at: usize,
-)
-    requires { ⌜ ClosingKnown (now file) (now merits) (now holders) (now steps) (now types) ⌝ }
-    requires { ⌜ (j < headOf (now file) .institutes) × (listed ≡ roundOf (now file) .stepsListed) ⌝ }
+// The closing places of an institute, twelve or six, from a byte on, by the numbers of its account.
+fn write_institute(noted: &[usize], listed: bool, area: &mut [u8], at: usize)
+    requires { ⌜ length (now noted) ≡ 60 ⌝ }
     requires { ⌜ at + closingWidth listed ≤ length (now area) ⌝ }
-    ensures { λ _. ⌜ now (area .exit) ≡ sets (now (area .entry)) at (closingBytes (roundOf (now (file .entry))) j) ⌝ }
+    ensures { λ _. ⌜ now (area .exit) ≡ sets (now (area .entry)) at (closingsIn listed (now (noted .entry))) ⌝ }
 {
-    let places = closing_places(file, merits, holders, steps, types, j);
     let count = closing_count(listed);
     for k in 0..count {
-        write_word(area, at + 2 * k, places[k]);
+        write_word(area, at + 2 * k, noted[k * 5 + 4]);
     }
 }
 
-// The closing places of every institute, from a byte on.
-fn write_closings(
+// The closing places of every institute, from a byte on, and the types used: each institute chooses once more, from its seats, whose categories a
+// table has.
+fn write_each(
     file: &[u8],
-    h: Head,
-    merits: &[usize],
+    o: Opened,
+    row: &[u8],
+    starts: &[u32],
     holders: &[u16],
     steps: &[u8],
-    types: &[u8],
+    wanted: &[u8],
+    types: &mut [u8],
     area: &mut [u8],
     at: usize,
 )
-    requires { ⌜ AnswerKnown (now file) h (now merits) (now holders) (now steps) (now types) ⌝ }
-    requires { ⌜ at + closingWidth (ownSteps (asHead h)) * h .institutes ≤ length (now area) ⌝ }
-    ensures { λ _. ⌜ now (area .exit)
-        ≡ sets (now (area .entry)) at (joined (tabulate (h .institutes) (closingBytes (roundOf (now (file .entry)))))) ⌝ }
+    ghost { Round }
+    requires { λ r. ⌜ openedRound (now file) o (now row) ≡ r ⌝ }
+    requires { λ _. ⌜ AtHand (now file) o (now row) (now starts) ⌝ }
+    requires { λ r. ⌜ HeldIn (seats r) (now holders) (now steps) × SeatsWanted r (length (now steps)) (now holders) (now steps) (now wanted) ⌝ }
+    requires { λ _. ⌜ now types ≡ replicate (o .head .candidates) 0 ⌝ }
+    requires { λ r. ⌜ at + closingWidth (r .stepsListed) * o .head .institutes ≤ length (now area) ⌝ }
+    ensures { λ r _. ⌜ (now (types .exit) ≡ typesUsed r)
+        × (now (area .exit) ≡ sets (now (area .entry)) at (joined (tabulate (o .head .institutes) (closingBytes r)))) ⌝ }
 {
+    let h = o.head;
     let listed = own_steps(h);
     let width = closing_width(listed);
     for j in 0..h.institutes {
-        write_institute(
-            file,
-            merits,
-            holders,
-            steps,
-            types,
-            j,
-            listed,
-            area,
-            at + width * j,
-        );
+        let mut noted = account_table();
+        account_anew(file, o, row, starts, j, holders, wanted, types, &mut noted);
+        write_institute(&noted, listed, area, at + width * j);
     }
+}
+
+// The closing places of every institute, from a byte on, and the types used.
+fn write_closings(
+    file: &[u8],
+    o: Opened,
+    row: &[u8],
+    starts: &[u32],
+    holders: &[u16],
+    steps: &[u8],
+    types: &mut [u8],
+    area: &mut [u8],
+    at: usize,
+)
+    ghost { Round }
+    requires { λ r. ⌜ openedRound (now file) o (now row) ≡ r ⌝ }
+    requires { λ _. ⌜ AtHand (now file) o (now row) (now starts) ⌝ }
+    requires { λ r. ⌜ HeldIn (seats r) (now holders) (now steps) ⌝ }
+    requires { λ _. ⌜ now types ≡ replicate (o .head .candidates) 0 ⌝ }
+    requires { λ r. ⌜ at + closingWidth (r .stepsListed) * o .head .institutes ≤ length (now area) ⌝ }
+    ensures { λ r _. ⌜ (now (types .exit) ≡ typesUsed r)
+        × (now (area .exit) ≡ sets (now (area .entry)) at (joined (tabulate (o .head .institutes) (closingBytes r)))) ⌝ }
+{
+    let n = o.head.candidates;
+    let mut wanted = zeros();
+    seats_wanted(file, o, row, starts, holders, steps, &mut wanted[..n]);
+    write_each(
+        file,
+        o,
+        row,
+        starts,
+        holders,
+        steps,
+        &wanted[..n],
+        types,
+        area,
+        at,
+    );
 }
 
 // The type of each candidate, from a byte on.
@@ -141,26 +172,40 @@ fn write_types(types: &[u8], area: &mut [u8], at: usize)
     }
 }
 
-// All that the answer area gets, where the arrays hold the list of the round and the types used.
+// All that the answer area gets, where two arrays hold the list of the round; the types used are noted on the way.
 pub fn write_answer(
     file: &[u8],
-    h: Head,
-    merits: &[usize],
+    o: Opened,
+    row: &[u8],
+    starts: &[u32],
     holders: &[u16],
     steps: &[u8],
-    types: &[u8],
+    types: &mut [u8],
     answer: &mut [u8],
 )
-    requires { ⌜ AnswerKnown (now file) h (now merits) (now holders) (now steps) (now types) ⌝ }
-    requires { ⌜ answerSize (formOf (now file)) (roundOf (now file)) ≤ length (now answer) ⌝ }
-    ensures { λ _. ⌜ now (answer .exit)
-        ≡ answerBytes (formOf (now (file .entry))) (roundOf (now (file .entry)))
-        ++ drop (answerSize (formOf (now (file .entry))) (roundOf (now (file .entry)))) (now (answer .entry)) ⌝ }
+    ghost { Round }
+    requires { λ r. ⌜ openedRound (now file) o (now row) ≡ r ⌝ }
+    requires { λ _. ⌜ AtHand (now file) o (now row) (now starts) ⌝ }
+    requires { λ r. ⌜ HeldIn (seats r) (now holders) (now steps) ⌝ }
+    requires { λ _. ⌜ now types ≡ replicate (o .head .candidates) 0 ⌝ }
+    requires { λ r. ⌜ answerSize (o .head .form) r ≤ length (now answer) ⌝ }
+    ensures { λ r _. ⌜ now (answer .exit) ≡ answerBytes (o .head .form) r ++ drop (answerSize (o .head .form) r) (now (answer .entry)) ⌝ }
 {
+    let h = o.head;
     let form = h.form;
-    let closings = seats_size(form, holders.len());
+    let closings = seats_size(form, h.candidates);
     write_seats(form, holders, steps, answer);
-    write_closings(file, h, merits, holders, steps, types, answer, closings);
+    write_closings(
+        file,
+        o,
+        row,
+        starts,
+        holders,
+        steps,
+        types,
+        answer,
+        closings,
+    );
     let placed = closings + closing_width(own_steps(h)) * h.institutes;
     write_types(types, answer, placed);
 }

@@ -1,7 +1,6 @@
 // The allotment of a round.
 mod areas;
 mod call;
-mod closing;
 pub mod sizes;
 
 pub use call::allot;

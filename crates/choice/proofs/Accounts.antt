@@ -15,7 +15,8 @@ use Rattle.round.proofs.Words.{and-snd, length-tabulate, tabulate-at}
 use Rattle.choice.specs.Step.{takenByMerit}
 use Rattle.choice.specs.Choice.{Progress, considers, positionsAt, takenAt, advance, advanceAll, nothingDone, choose}
 use Rattle.choice.specs.Account.{StepAccount, tookForUse, tookByMerit, typeUsed, accountOf, accountAt, accountFrom, account, closingPlace, usedIn, typeIn}
-use Rattle.choice.proofs.Counting.{clash, test, sameOr, false-unless, greatest-below}
+use Rattle.choice.proofs.Counting.{clash, test, sameOr, false-unless}
+use Rattle.choice.proofs.Last.{last-few}
 use Rattle.choice.proofs.Offers.{Offers}
 use Rattle.choice.proofs.Tabulate.{getD-zeros}
 use Rattle.choice.proofs.Types.{types-some, types-none}
@@ -208,16 +209,9 @@ module _ (step : StepAccount) where
   abbrev pub meritPlace : ℕ → ℕ
   meritPlace p = cond (tookByMerit step p) (suc p) 0
 
-  place-most : (p : ℕ) → meritPlace p ≤ suc p
-  place-most p = most (tookByMerit step p)
-    where
-      most : (b : Bool) → cond b (suc p) 0 ≤ suc p
-      most true = omega arith
-      most false = omega arith
-
   -- the largest among the first n places is one of them
   pub largest-few : (n : ℕ) → greatest n meritPlace ≤ n
-  largest-few n = greatest-below n meritPlace n (λ p l. omega (arith, place-most p))
+  largest-few = last-few (tookByMerit step)
 
   -- the closing place is the largest of any number of places that has all of the account
   pub closing-largest : (n : ℕ) → length (step .byMerit) ≤ n → closingPlace step ≡ greatest n meritPlace

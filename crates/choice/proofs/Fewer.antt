@@ -1,29 +1,55 @@
 -- Places without an offer do not matter: the choice among the gathered places with an offer is the choice among all.
-use Prim.Native.Nat.{ℕ, zero, suc, _≤_, _<_}
-use mathlib.Core.Path.{_≡_, refl, sym, _∙_}
-use mathlib.Core.Bool.{Bool, true, false}
+use Prim.Native.Nat.{ℕ, zero, suc, _+_, _-_, _*_, _≤_, _<_}
+use mathlib.Core.Path.{_≡_, refl, sym, ap, _∙_}
+use mathlib.Core.Bool.{Bool, true, false, cond}
 use mathlib.Core.List.{List, [], _∷_}
 use native.Mathlib.Omega.{arith}
+use lib.Dec.{eqb}
 use lib.ListN.{length, getD}
+use borrow.Author.Tests.{ne-eqb}
 use Rattle.round.specs.declared.entry.Category.{Category}
 use Rattle.round.specs.Round.{StepRule}
-use Rattle.round.specs.Lists.{count}
+use Rattle.round.specs.Lists.{count, greatest}
 use Rattle.round.proofs.Words.{tabulate-at}
 use Rattle.choice.specs.Step.{takenBefore, takenForUse, remaining, takenByMerit, taken}
 use Rattle.choice.specs.FirstPlacing.{typesOf}
 use Rattle.choice.specs.Choice.{Progress, considers, positionsAt, takenAt, vacantAt, advance, advanceAll, nothingDone, choose}
-use Rattle.choice.specs.Account.{tookForUse, typeUsed, accountAt, accountFrom, account, typeIn}
+use Rattle.choice.specs.Account.{StepAccount, tookForUse, typeUsed, accountOf, accountAt, accountFrom, account, closingPlace, typeIn}
+use Rattle.choice.specs.Fill.{lastOf}
+use Rattle.choice.specs.Noted.{numberForUse, numberByMerit, numbersOf, notedOf, placeFrom, Placed}
 use Rattle.choice.specs.Gathers.{Gathers, gathered}
-use Rattle.choice.proofs.Counting.{test}
+use Rattle.choice.proofs.Counting.{test, below}
 use Rattle.choice.proofs.Offers.{Offers}
 use Rattle.choice.proofs.Tabulate.{getD-zeros}
 use Rattle.choice.proofs.Gathered.{number-below}
+use Rattle.choice.proofs.Last.{last-in, last-out}
+use Rattle.choice.proofs.Noted.{count-listed, last-listed, idle, noted-at, noted-by}
 use Rattle.choice.proofs.Types.{types-at}
 
 -- X' says of the gathered what X says of the places below n, and nothing else is in X
 pub record SameAmong (G : ℕ → Bool) (n : ℕ) (X X' : ℕ → Bool) : Type 0 where
   pub inside : (p : ℕ) → p < n → G p ≡ true → X' (count p G) ≡ X p
   pub outside : (p : ℕ) → p < n → G p ≡ false → X p ≡ false
+
+-- a step has the same numbers among the gathered, and its closing place is the place of the one there
+pub record SameNumbers (places : List ℕ) (step step' : StepAccount) : Type 0 where
+  pub positions : step .positions ≡ step' .positions
+  pub for-use : numberForUse step ≡ numberForUse step'
+  pub by-merit : numberByMerit step ≡ numberByMerit step'
+  pub vacant : step .vacant ≡ step' .vacant
+  pub closing : closingPlace step ≡ placeFrom places (closingPlace step')
+
+idle-same : (places : List ℕ) → SameNumbers places idle idle
+unfolding closingPlace greatest
+idle-same places = record { positions = refl; for-use = refl; by-merit = refl; vacant = refl; closing = refl }
+
+rows-same : {places : List ℕ} {step step' : StepAccount} → SameNumbers places step step' → (i : ℕ) → i < 4 → getD (numbersOf step) i 0 ≡ getD (numbersOf step') i 0
+unfolding numbersOf
+rows-same s zero l = s .positions
+rows-same s (suc zero) l = s .for-use
+rows-same s (suc (suc zero)) l = s .by-merit
+rows-same s (suc (suc (suc zero))) l = s .vacant
+rows-same s (suc (suc (suc (suc i)))) l = absurd (omega arith)
 
 module _ (G : ℕ → Bool) (n : ℕ) where
   next-in : (p : ℕ) → G p ≡ true → count (suc p) G ≡ suc (count p G)
@@ -38,6 +64,27 @@ module _ (G : ℕ → Bool) (n : ℕ) where
       test (G p)
       (λ g. rw (next-in p g, s .inside p (omega arith) g, same-count X X' s p (omega arith)))
       (λ g. rw (next-out p g, s .outside p (omega arith) g, same-count X X' s p (omega arith)) (omega arith))
+
+  same-size : (marks marks' : List ℕ) → length marks ≡ n → length marks' ≡ count n G → (X X' : ℕ → Bool) → SameAmong G n X X'
+      → count (length marks') X' ≡ count (length marks) X
+  same-size marks marks' whole few X X' s = rw (few, whole) (same-count X X' s n (omega arith))
+
+  -- the largest place of a set is that of the largest gathered
+  same-last : (places : List ℕ) → Gathers G n (λ p. p) places → (X X' : ℕ → Bool) → SameAmong G n X X' → (p : ℕ) → p ≤ n
+      → lastOf p X ≡ placeFrom places (lastOf (count p G) X')
+  same-last places at X X' s zero l = unfold greatest in refl
+  same-last places at X X' s (suc p) l =
+      test (G p)
+      (λ g.
+      let same : X' (count p G) ≡ X p = s .inside p (omega arith) g in
+      test (X p)
+      (λ x.
+      let back : suc (count p G) - 1 ≡ count p G = omega arith in
+      last-in X p x
+      ∙ sym
+      (rw (next-in p g, last-in X' (count p G) (same ∙ x), ne-eqb (suc (count p G)) 0 (λ z. omega arith), back, at p (omega arith) g)))
+      (λ x. last-out X p x ∙ rw (next-in p g, last-out X' (count p G) (same ∙ x)) (same-last places at X X' s p (omega arith))))
+      (λ g. last-out X p (s .outside p (omega arith) g) ∙ rw (next-out p g) (same-last places at X X' s p (omega arith)))
 
   -- the gathered of a set are those of the whole
   module _ (f f' : ℕ → ℕ) (kept : (p : ℕ) → p < n → G p ≡ true → f' (count p G) ≡ f p) where
@@ -81,23 +128,23 @@ module _ (G : ℕ → Bool) (n : ℕ) where
       outside = λ p l g. rw (s .outside p l g);
     }
 
-    same-taken : (q : ℕ) → SameAmong G n (taken reserved marks X q) (taken reserved marks' X' q)
-    unfolding taken takenByMerit
-    same-taken q = record {
+    same-merit : (q : ℕ) → SameAmong G n (takenByMerit reserved marks X q) (takenByMerit reserved marks' X' q)
+    unfolding takenByMerit
+    same-merit q = record {
       inside = λ p l g.
-          rw (
-            same-use .inside p l g,
-            same-remaining .inside p l g,
-            few,
-            whole,
-            same-count _ _ same-use n (omega arith),
-            same-count _ _ same-remaining p (omega arith),
-          );
-      outside = λ p l g. rw (same-use .outside p l g, same-remaining .outside p l g);
+          rw (same-remaining .inside p l g, few, whole, same-count _ _ same-use n (omega arith), same-count _ _ same-remaining p (omega arith));
+      outside = λ p l g. rw (same-remaining .outside p l g);
+    }
+
+    same-taken : (q : ℕ) → SameAmong G n (taken reserved marks X q) (taken reserved marks' X' q)
+    unfolding taken
+    same-taken q = record {
+      inside = λ p l g. rw (same-use .inside p l g, same-merit q .inside p l g);
+      outside = λ p l g. rw (same-use .outside p l g, same-merit q .outside p l g);
     }
 
     same-number : (q : ℕ) → count (length marks') (taken reserved marks' X' q) ≡ count (length marks) (taken reserved marks X q)
-    same-number q = rw (few, whole) (same-count _ _ (same-taken q) n (omega arith))
+    same-number q = same-size marks marks' whole few _ _ (same-taken q)
 
 -- the steps of the gathered are those of their places, and no other place has one
 pub record AlikeAmong (G : ℕ → Bool) (n : ℕ) (done done' : Progress) : Type 0 where
@@ -190,3 +237,50 @@ module _ (G : ℕ → Bool) (n : ℕ) (marks marks' : List ℕ) (whole : length 
   pub type-gathered : (rules : List StepRule) (p : ℕ) → p < n → G p ≡ true → typeIn (account marks Y rules) p ≡ typeIn (account marks' Y' rules) (count p G)
   unfolding account
   type-gathered rules p l g = sym (same-typed rules 1 _ _ same-start p l g)
+
+  module _ (places : List ℕ) (at : Gathers G n (λ p. p) places) where
+    same-numbers-at : (k : ℕ) (rule : StepRule) (done done' : Progress) → AlikeAmong G n done done' → SameNumbers places (accountAt marks Y k rule done) (accountAt marks' Y' k rule done')
+    unfolding accountAt closingPlace
+    same-numbers-at k rule done done' a =
+        let X : ℕ → Bool = considers marks Y rule done in
+        let X' : ℕ → Bool = considers marks' Y' rule done' in
+        let H : ℕ → Bool = takenForUse (rule .reserved) marks X in
+        let H' : ℕ → Bool = takenForUse (rule .reserved) marks' X' in
+        let M : ℕ → Bool = takenByMerit (rule .reserved) marks X (positionsAt marks Y k rule done) in
+        let M' : ℕ → Bool = takenByMerit (rule .reserved) marks' X' (positionsAt marks' Y' k rule done') in
+        let used : SameAmong G n H H' = same-use G n marks marks' whole few gathers (rule .reserved) X X' (same-considered rule done done' a) in
+        let seated : SameAmong G n M M' =
+        rw (same-positions k rule done done' a) (same-merit G n marks marks' whole few gathers (rule .reserved) X X' (same-considered rule done done' a) _) in
+        let last : lastOf (length marks) M ≡ placeFrom places (lastOf (length marks') M') = rw (few, whole) (same-last G n places at M M' seated n (omega arith)) in
+        record {
+          positions = sym (same-positions k rule done done' a);
+          for-use = count-listed (length marks) H ∙ sym (same-size G n marks marks' whole few H H' used) ∙ sym (count-listed (length marks') H');
+          by-merit = count-listed (length marks) M ∙ sym (same-size G n marks marks' whole few M M' seated) ∙ sym (count-listed (length marks') M');
+          vacant = sym (same-vacant k rule done done' a);
+          closing = last-listed (length marks) M ∙ last ∙ ap (placeFrom places) (sym (last-listed (length marks') M'));
+        }
+
+    same-numbers : (rules : List StepRule) (k i : ℕ) (done done' : Progress) → AlikeAmong G n done done'
+        → SameNumbers places (accountOf (accountFrom marks Y k rules done) (suc i)) (accountOf (accountFrom marks' Y' k rules done') (suc i))
+    unfolding accountFrom
+    same-numbers [] k i done done' a = idle-same places
+    same-numbers (rule ∷ rules) k zero done done' a = same-numbers-at k rule done done' a
+    same-numbers (rule ∷ rules) k (suc i) done done' a =
+        let next : suc (suc i) - 1 ≡ suc (suc i - 1) = omega arith in rw next (same-numbers rules (suc k) i _ _ (same-advance k rule done done' a))
+
+    -- each step has the numbers that it has among the gathered
+    pub account-gathered : (rules : List StepRule) (k : ℕ) → SameNumbers places (accountOf (account marks Y rules) (suc k)) (accountOf (account marks' Y' rules) (suc k))
+    unfolding account
+    account-gathered rules k = same-numbers rules 1 k _ _ same-start
+
+    -- the table of the gathered, with the places of the closing places there, is that of the whole
+    pub noted-gathered : (rules : List StepRule) (noted : List ℕ) → Placed places (notedOf (account marks' Y' rules)) noted → noted ≡ notedOf (account marks Y rules)
+    noted-gathered rules noted put =
+        noted-by (account marks Y rules) noted (put .sized)
+        (λ k i l b.
+        let s = account-gathered rules k in
+        below i 4 b
+        (λ less. put .others k i l less ∙ noted-at (account marks' Y' rules) k i l b ∙ sym (rows-same s i less))
+        (λ same.
+        rw same
+        (put .closings k l ∙ ap (placeFrom places) (noted-at (account marks' Y' rules) k 4 l (omega arith)) ∙ sym (unfold numbersOf in s .closing))))

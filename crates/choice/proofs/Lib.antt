@@ -17,6 +17,7 @@ pub mod Completion
 pub mod Chosen
 pub mod Agreement
 pub mod FirstDifference
+pub mod Last
 pub mod Accounts
 pub mod TypesFirst
 pub mod PositionsLeft
@@ -31,5 +32,6 @@ pub mod LowerFrom
 pub mod LowerDown
 pub mod Fills
 pub mod Steps
+pub mod Noted
 pub mod Choosing
 pub mod Fewer

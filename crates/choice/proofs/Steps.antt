@@ -2,7 +2,7 @@
 use Prim.Native.Nat.{ℕ, zero, suc, _+_, _-_, _≤_, _<_, min}
 use mathlib.Core.Path.{_≡_, refl, sym, ap, _∙_}
 use mathlib.Core.Bool.{Bool, true, false, cond, not, _&&_, _||_}
-use mathlib.Core.List.{List, _++_}
+use mathlib.Core.List.{List, [], _∷_, _++_}
 use native.Mathlib.Omega.{arith}
 use lib.Dec.{ltb}
 use lib.ListN.{length, getD, take, drop, replicate, length-replicate}
@@ -16,8 +16,10 @@ use Rattle.choice.specs.Step.{takenForUse, remaining, takenByMerit, take
 use Rattle.choice.specs.Offers.{Places}
 use Rattle.choice.specs.Taken.{Took}
 use Rattle.choice.specs.Lowered.{PlacedFirst, TookTyped}
-use Rattle.choice.specs.Fill.{typedAt, restAt, fillsAt, seatsAt, numbered, typed, stepGiven, stepVacant, stepTypes}
+use Rattle.choice.specs.Fill.{typedAt, restAt, fillsAt, seatsAt, lastOf, numbered, typed, stepGiven, stepVacant, stepTypes, stepNumbers}
 use Rattle.choice.proofs.Counting.{lessOr, count-ext}
+use Rattle.choice.proofs.Sets.{count-best}
+use Rattle.choice.proofs.Last.{last-ext}
 use Rattle.choice.proofs.Tabulate.{tabulate-cong}
 use Rattle.choice.proofs.Types.{types-cong}
 
@@ -70,24 +72,6 @@ left-test h k positions =
     lessOr (h + k) positions (λ l. lt-ltb k (positions - h) (omega arith) ∙ sym (lt-ltb (h + k) positions l))
     (λ l. le-ltb k (positions - h) (omega arith) ∙ sym (le-ltb (h + k) positions l))
 
--- of the rest as many fill as leave nothing that the rest would not
-left-same : (R : ℕ → Bool) (h positions n : ℕ)
-    → (count n (λ p. R p && ltb (h + count p R) positions) ≤ count n R)
-    × (positions - (h + count n (λ p. R p && ltb (h + count p R) positions)) ≡ positions - (h + count n R))
-left-same R h positions zero = (omega arith, refl)
-left-same R h positions (suc n) = go (left-same R h positions n) (R n) refl
-  where
-    go : (count n (λ p. R p && ltb (h + count p R) positions) ≤ count n R)
-        × (positions - (h + count n (λ p. R p && ltb (h + count p R) positions)) ≡ positions - (h + count n R))
-        → (b : Bool) → R n ≡ b
-        → (count (suc n) (λ p. R p && ltb (h + count p R) positions) ≤ count (suc n) R)
-        × (positions - (h + count (suc n) (λ p. R p && ltb (h + count p R) positions)) ≡ positions - (h + count (suc n) R))
-    go k true e =
-        rw e
-        (lessOr (h + count n R) positions (λ l. rw (lt-ltb (h + count n R) positions l) (omega (arith, k .0, k .1)))
-        (λ l. rw (le-ltb (h + count n R) positions l) (omega (arith, k .0, k .1))))
-    go k false e = rw e (omega (arith, k .0, k .1))
-
 count-sum : (n : ℕ) (A B C : ℕ → Bool) → ((p : ℕ) → bit (A p) ≡ bit (B p) + bit (C p)) → count n A ≡ count n B + count n C
 count-sum zero A B C h = refl
 count-sum (suc n) A B C h = omega (arith, h n, count-sum n A B C h)
@@ -123,19 +107,20 @@ module _ (first : Bool) (reserved marks placed : List ℕ) (X : ℕ → Bool) (p
       apart true false l = refl
       apart false x l = omega arith
 
-  vacant-same : (free filled vacant : ℕ) → free ≡ positions - used → filled ≡ min free (count n (restAt placed X)) → vacant ≡ free - filled
-      → vacant ≡ stepVacant reserved marks X positions
-  vacant-same free filled vacant f e v =
-      omega (
-        arith,
-        k .number,
-        count-sum n (taken reserved marks X positions) H (takenByMerit reserved marks X positions) split,
-        count-ext n (restAt placed X) (remaining reserved marks X) rest-same,
-        merit,
-      )
-    where
-      merit : positions - (count n H + count n (takenByMerit reserved marks X positions)) ≡ positions - (count n H + count n (remaining reserved marks X))
-      merit = unfold takenByMerit in left-same (remaining reserved marks X) (count n H) positions n .1
+  filled-same : (free filled : ℕ) → free ≡ positions - used → filled ≡ min free (count n (restAt placed X)) → filled ≡ count n (takenByMerit reserved marks X positions)
+  unfolding takenByMerit
+  filled-same free filled f e =
+      omega (arith, k .number, count-ext n (restAt placed X) (remaining reserved marks X) rest-same, count-best n (remaining reserved marks X) (count n H) positions)
+
+  -- the numbers of the step
+  numbers-same : (free filled vacant closing : ℕ) → free ≡ positions - used → filled ≡ min free (count n (restAt placed X)) → vacant ≡ free - filled
+      → closing ≡ lastOf n (fillsAt placed X free) → positions ∷ used ∷ filled ∷ vacant ∷ closing ∷ [] ≡ stepNumbers reserved marks X positions
+  numbers-same free filled vacant closing f e v c =
+      let merit : filled ≡ count n (takenByMerit reserved marks X positions) = filled-same free filled f e in
+      let left : vacant ≡ stepVacant reserved marks X positions =
+      omega (arith, k .number, count-sum n (taken reserved marks X positions) H (takenByMerit reserved marks X positions) split) in
+      let last : closing ≡ lastOf n (takenByMerit reserved marks X positions) = (rw f at c) ∙ last-ext n _ _ fills-same in
+      rw (k .number, merit, left, last)
 
 -- the types of those taken for use, the first ones where they are asked for
 pub took-typed : {first : Bool} {reserved left marks placed types : List ℕ} {X : ℕ → Bool} {took count : ℕ} → Took reserved left marks placed X took → PlacedFirst first reserved marks placed types → count ≡ took
@@ -147,15 +132,16 @@ took-typed {reserved = reserved} {marks = marks} k f e = record {
 }
 
 -- what filling says of the types and the positions left is what the step says
-pub step-done : {reserved marks offers types types′ given steps used₀ used : List ℕ} {X : ℕ → Bool} {first : Bool} (number positions : ℕ) {took free filled vacant : ℕ}
+pub step-done : {reserved marks offers types types′ given steps used₀ used : List ℕ} {X : ℕ → Bool} {first : Bool} (number positions : ℕ) {took free filled vacant closing : ℕ}
     → Places marks offers given used₀ → TookTyped first reserved marks types X took → types′ ≡ types → free ≡ positions - took
     → (steps ≡ numbered (length given) number (seatsAt types′ X free) given) × (filled ≡ min free (count (length given) (restAt types′ X)))
-    × (used ≡ typed (length given) types′ (typedAt types′) used₀) → vacant ≡ free - filled
-    → (steps ≡ stepGiven number reserved marks X positions given) × (vacant ≡ stepVacant reserved marks X positions)
+    × (used ≡ typed (length given) types′ (typedAt types′) used₀) × (closing ≡ lastOf (length given) (fillsAt types′ X free)) → vacant ≡ free - filled
+    → (steps ≡ stepGiven number reserved marks X positions given) × (positions ∷ took ∷ filled ∷ vacant ∷ closing ∷ [] ≡ stepNumbers reserved marks X positions)
     × (first ≡ true → used ≡ stepTypes reserved marks X used₀)
-step-done {reserved} {marks} {types = types} {given = given} {used₀ = used₀} {X = X} {first} number positions {took} {free} {filled} {vacant} p k same left s v = (
+step-done {reserved} {marks} {types = types} {given = given} {used₀ = used₀} {X = X} {first} number positions {took} {free} {filled} {vacant} {closing} p k same left s v = (
   rw (same, p .steps-each, left) at (s .0) ∙ numbered-same (length marks) number _ _ given (seats-same first reserved marks types X positions took k),
-  vacant-same first reserved marks types X positions took k free filled vacant left (rw (same, p .steps-each) at (s .1)) v,
+  numbers-same first reserved marks types X positions took k free filled vacant closing left (rw (same, p .steps-each) at (s .1)) v
+      (rw (same, p .steps-each) at (s .3)),
   λ t. rw (same, p .steps-each) at (s .2) ∙ typed-same (length marks) types _ _ _ used₀ (λ q l. sym (k .each q l)) (k .types t),
 )
 

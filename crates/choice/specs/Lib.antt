@@ -8,6 +8,7 @@ pub mod Search
 pub mod Taken
 pub mod Fill
 pub mod Handed
+pub mod Noted
 pub mod Gathers
 pub mod FirstPlacing
 pub mod Lowered

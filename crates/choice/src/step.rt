@@ -7,7 +7,17 @@ ghost use mathlib.Core.Bool.{true};
 ghost use Prim.Native.Nat.{_-_, _≤_, _<_};
 ghost use lib.ListN.{length};
 ghost use Rattle.choice.specs.Offers.{considersBy, Places};
-ghost use Rattle.choice.specs.Fill.{stepGiven, stepVacant, stepTypes};
+ghost use Rattle.choice.specs.Fill.{stepGiven, stepTypes, numbersIn, stepNumbers};
+
+// What a step comes to: its positions, how many it took for use and how many by merit, the positions that it leaves vacant, and its closing
+// place.
+pub struct Numbers {
+    pub positions: usize,
+    pub used: usize,
+    pub merit: usize,
+    pub vacant: usize,
+    pub closing: usize,
+}
 
 // The positions that so many leave.
 fn left_of(positions: usize, filled: usize) -> usize
@@ -20,8 +30,7 @@ fn left_of(positions: usize, filled: usize) -> usize
     }
 }
 
-// Does one step and returns the positions that it leaves vacant; with `first` the types used are those of the first placing, else nothing is
-// said of them.
+// Does one step and returns its numbers; with `first` the types used are those of the first placing, else nothing is said of them.
 pub fn step(
     reserved: &[usize],
     positions: usize,
@@ -32,17 +41,24 @@ pub fn step(
     first: bool,
     steps: &mut [u8],
     used: &mut [u8],
-) -> usize
+) -> Numbers
     requires { ⌜ (length (now reserved) ≤ 8) × (code < 5) ⌝ }
     requires { ⌜ Places (now marks) (now offers) (now steps) (now used) ⌝ }
     ensures { λ r. ⌜ (now (steps .exit) ≡ stepGiven number (now (reserved .entry)) (now (marks .entry)) (considersBy (now (offers .entry)) (now (steps .entry)) code) positions (now (steps .entry)))
-        × (r ≡ stepVacant (now (reserved .entry)) (now (marks .entry)) (considersBy (now (offers .entry)) (now (steps .entry)) code) positions)
+        × (numbersIn r ≡ stepNumbers (now (reserved .entry)) (now (marks .entry)) (considersBy (now (offers .entry)) (now (steps .entry)) code) positions)
         × (first ≡ true → now (used .exit) ≡ stepTypes (now (reserved .entry)) (now (marks .entry)) (considersBy (now (offers .entry)) (now (steps .entry)) code) (now (used .entry))) ⌝ }
 {
     let n = marks.len();
     let mut types = zeros();
     let count = take_typed(first, reserved, marks, offers, steps, code, &mut types[..n]);
     let free = left_of(positions, count);
-    let filled = fill(free, number, offers, code, &types[..n], steps, used);
-    left_of(free, filled)
+    let merit = fill(free, number, offers, code, &types[..n], steps, used);
+    let vacant = left_of(free, merit.filled);
+    Numbers {
+        positions,
+        used: count,
+        merit: merit.filled,
+        vacant,
+        closing: merit.closing,
+    }
 }

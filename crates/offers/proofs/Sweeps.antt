@@ -7,4 +7,4 @@ pub mod Going
 pub mod Gathers
 pub mod Scatters
 pub mod Choosing
-pub mod Types
+pub mod Accounts

@@ -1,14 +1,12 @@
--- Seats as bytes, and the size of the work area (document 01, "Offers": "The answer area gets ..", and question 14; document 02, Points 5
--- and 6).
+-- Seats as bytes (document 01, "Offers": "The answer area gets .."; document 02, Points 5 and 6).
 use Prim.Native.Nat.{ℕ, _+_, _*_, _/_, _%_}
 use mathlib.Core.List.{List, [], _∷_, _++_}
 use lib.ListN.{getD}
 use Rattle.round.specs.Lists.{tabulate}
-use Rattle.round.specs.Round.{Round}
 use Rattle.round.specs.Records.{word}
 use Rattle.round.specs.declared.form.Form.{Form}
 use Rattle.round.specs.declared.form.Form.the-variants.{Narrow, Wide}
-use Rattle.offers.specs.Process.{Seat, candidateCount}
+use Rattle.offers.specs.Process.{Seat}
 
 -- a two-byte number, little-endian
 abbrev pub wordBytes : ℕ → List ℕ
@@ -28,7 +26,3 @@ seatIn Wide bytes i = record { institute = word bytes (4 * i); step = word bytes
 -- the list of n candidates that bytes begin with
 unfoldable pub seatsIn : Form → ℕ → List ℕ → List Seat
 seatsIn form n bytes = tabulate n (seatIn form bytes)
-
--- the bytes of the work area that question 14 asks for
-abbrev pub workSize : Round → ℕ
-workSize r = 8 * candidateCount r

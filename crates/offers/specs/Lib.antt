@@ -8,5 +8,5 @@ pub mod Standing
 pub mod Stable
 pub mod Held
 pub mod Sweeps
-pub mod Types
+pub mod Accounts
 pub mod FirstTypes

@@ -15,8 +15,9 @@ use Rattle.round.specs.Round.{Round}
 use Rattle.round.specs.Places.{candidateAt, instituteAt, entryAt}
 use Rattle.choice.specs.Use.{holds}
 use Rattle.choice.specs.Gathers.{Gathers}
+use Rattle.choice.specs.Noted.{notedOf, ClosingsFew, Placed}
 use Rattle.offers.specs.Rows.{rowAt, rankIn, entryOf}
-use Rattle.offers.specs.Offers.{OfferSet, candidateOn, placeOn, stepFor, typeFor}
+use Rattle.offers.specs.Offers.{OfferSet, candidateOn, placeOn, accountOn, stepFor, typeFor}
 use Rattle.offers.specs.Process.{candidateCount}
 
 -- the offers to institute j among the entries that the candidates tried last
@@ -88,26 +89,30 @@ module _ (r : Round) (j : ℕ) where
   abbrev pub offersAt : (ℕ → ℕ) → ℕ → Bool
   offersAt offer p = not (eqb (offer (candidateOn r j p)) 0)
 
-  -- the k offers at the first n places of institute j's merit list, in its order: who makes each, the marks and the categories
-  pub record Gathered (offer : ℕ → ℕ) (n : ℕ) (who marks offers : List ℕ) (k : ℕ) : Type 0 where
+  -- the k offers at the first n places of institute j's merit list, in its order: who makes each, the marks and the categories, and, where it is asked for,
+  -- the place
+  pub record Gathered (offer : ℕ → ℕ) (placed : Bool) (n : ℕ) (who marks offers places : List ℕ) (k : ℕ) : Type 0 where
     pub number : k ≡ count n (offersAt offer)
     pub who-at : Gathers (offersAt offer) n (candidateOn r j) who
     pub marks-at : Gathers (offersAt offer) n (λ p. marksOf r (candidateOn r j p)) marks
     pub offers-at : Gathers (offersAt offer) n (λ p. offer (candidateOn r j p)) offers
+    pub places-at : placed ≡ true → Gathers (offersAt offer) n (λ p. p) places
 
   -- candidate c stands on institute j's merit list and has an offer
   unfoldable pub takesPart : (ℕ → ℕ) → ℕ → Bool
   takesPart offer c = ltb (placeOn r j c) (length (instituteAt r j .merit)) && not (eqb (offer c) 0)
 
   -- the first k of a list are those who take part, each once; further lists have for each the step that institute j gives, and, where
-  -- it is asked for, the type that it uses
-  pub record ChosenListed (offer : ℕ → ℕ) (first : Bool) (who chosen used : List ℕ) (k : ℕ) : Type 0 where
+  -- it is asked for, the type that it uses; and a table of numbers is then that of the account, with the places of its closing places put in
+  pub record ChosenListed (offer : ℕ → ℕ) (first : Bool) (who chosen used places noted : List ℕ) (k : ℕ) : Type 0 where
     pub few : k ≤ 512
     pub apart : Apart who (candidateCount r) k
     pub part : (q : ℕ) → q < k → takesPart offer (getD who q 0) ≡ true
     pub each : (c : ℕ) → takesPart offer c ≡ true → (q : ℕ) × (q < k) × (getD who q 0 ≡ c)
     pub chosen-at : (q : ℕ) → q < k → getD chosen q 0 ≡ stepFor r j (offersBy offer) (getD who q 0)
     pub typed-at : first ≡ true → (q : ℕ) → q < k → getD used q 0 ≡ typeFor r j (offersBy offer) (getD who q 0)
+    pub noted-few : first ≡ true → ClosingsFew k noted
+    pub noted-as : first ≡ true → (table : List ℕ) → Placed places noted table → table ≡ notedOf (accountOn r j (offersBy offer))
 
   -- a table has these values for those who take part, and for everybody else what stood there
   pub record PutFor (offer value : ℕ → ℕ) (before after : List ℕ) : Type 0 where

@@ -1,4 +1,5 @@
 // The offers of a round.
+pub mod accounts;
 pub mod choosing;
 pub mod gather;
 pub mod list;
@@ -6,4 +7,3 @@ pub mod offering;
 pub mod process;
 mod scatter;
 pub mod table;
-pub mod types;

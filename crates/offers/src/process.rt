@@ -7,52 +7,56 @@ use crate::choosing::choose_all;
 use crate::offering::offer_all;
 use crate::table::none_fresh;
 use round::clearing::zeros;
-use round::head::Head;
+use round::opened::Opened;
 ghost use mathlib.Core.Path.{_≡_};
 ghost use lib.ListN.{length, replicate};
-ghost use Rattle.round.specs.Reading.{roundOf};
+ghost use Rattle.round.specs.Round.{Round};
+ghost use Rattle.round.specs.Opened.{AtHand, openedRound};
 ghost use Rattle.offers.specs.Process.{offersMade, seats};
-ghost use Rattle.offers.specs.Held.{AtHand, HeldIn};
+ghost use Rattle.offers.specs.Held.{HeldIn};
 ghost use Rattle.offers.specs.Sweeps.{settled};
 
 // Sweeps from the state in which nothing is tried and nobody held, to the end; returns how many offers were made.
 fn sweep_all(
     file: &[u8],
-    h: Head,
-    candidates: &[usize],
-    merits: &[usize],
+    o: Opened,
+    row: &[u8],
+    starts: &[u32],
     tried: &mut [u8],
     asked: &mut [u16],
     wanted: &mut [u8],
     steps: &mut [u8],
 ) -> usize
-    requires { ⌜ AtHand (now file) h (now candidates) (now merits) ⌝ }
-    requires { ⌜ (now tried ≡ replicate (h .candidates) 0)
-        × (now asked ≡ replicate (h .candidates) 0)
-        × (now steps ≡ replicate (h .candidates) 0)
-        × (length (now wanted) ≡ h .candidates) ⌝ }
-    ensures { λ r. ⌜ (r ≡ offersMade (roundOf (now (file .entry))))
-        × (length (now (asked .exit)) ≡ h .candidates)
-        × (length (now (steps .exit)) ≡ h .candidates)
-        × HeldIn (seats (roundOf (now (file .entry)))) (settled (now (asked .exit)) (now (steps .exit))) (now (steps .exit)) ⌝ }
+    ghost { Round }
+    requires { λ r. ⌜ openedRound (now file) o (now row) ≡ r ⌝ }
+    requires { λ _. ⌜ AtHand (now file) o (now row) (now starts) ⌝ }
+    requires { λ _. ⌜ (now tried ≡ replicate (o .head .candidates) 0)
+        × (now asked ≡ replicate (o .head .candidates) 0)
+        × (now steps ≡ replicate (o .head .candidates) 0)
+        × (length (now wanted) ≡ o .head .candidates) ⌝ }
+    ensures { λ r x. ⌜ (x ≡ offersMade r)
+        × (length (now (asked .exit)) ≡ o .head .candidates)
+        × (length (now (steps .exit)) ≡ o .head .candidates)
+        × HeldIn (seats r) (settled (now (asked .exit)) (now (steps .exit))) (now (steps .exit)) ⌝ }
 {
     let mut fresh = none_fresh();
     let mut count: usize = 0;
     loop {
-        let made = offer_all(file, candidates, steps, tried, asked, wanted, &mut fresh);
-        if made == 0 {
-            return count;
-        }
-        choose_all(
+        let made = offer_all(
             file,
-            h,
-            candidates,
-            merits,
+            o,
+            row,
+            starts,
+            steps,
+            tried,
             asked,
             wanted,
             &mut fresh,
-            steps,
         );
+        if made == 0 {
+            return count;
+        }
+        choose_all(file, o, row, starts, asked, wanted, &mut fresh, steps);
         count += made;
     }
 }
@@ -73,25 +77,27 @@ fn settle(steps: &[u8], holders: &mut [u16])
 // and the step of each candidate, 0 and 0 for none.
 pub fn run_offers(
     file: &[u8],
-    h: Head,
-    candidates: &[usize],
-    merits: &[usize],
+    o: Opened,
+    row: &[u8],
+    starts: &[u32],
     holders: &mut [u16],
     steps: &mut [u8],
 ) -> usize
-    requires { ⌜ AtHand (now file) h (now candidates) (now merits) ⌝ }
-    requires { ⌜ (now holders ≡ replicate (h .candidates) 0) × (now steps ≡ replicate (h .candidates) 0) ⌝ }
-    ensures { λ r. ⌜ (r ≡ offersMade (roundOf (now (file .entry))))
-        × HeldIn (seats (roundOf (now (file .entry)))) (now (holders .exit)) (now (steps .exit)) ⌝ }
+    ghost { Round }
+    requires { λ r. ⌜ openedRound (now file) o (now row) ≡ r ⌝ }
+    requires { λ _. ⌜ AtHand (now file) o (now row) (now starts) ⌝ }
+    requires { λ _. ⌜ (now holders ≡ replicate (o .head .candidates) 0) × (now steps ≡ replicate (o .head .candidates) 0) ⌝ }
+    ensures { λ r x. ⌜ (x ≡ offersMade r)
+        × HeldIn (seats r) (now (holders .exit)) (now (steps .exit)) ⌝ }
 {
-    let n = h.candidates;
+    let n = o.head.candidates;
     let mut tried = zeros();
     let mut wanted = zeros();
     let count = sweep_all(
         file,
-        h,
-        candidates,
-        merits,
+        o,
+        row,
+        starts,
         &mut tried[..n],
         holders,
         &mut wanted[..n],

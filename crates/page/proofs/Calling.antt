@@ -20,7 +20,8 @@ use Rattle.allotment.specs.declared.Answer.{Answer}
 use Rattle.allotment.specs.declared.Answer.the-variants.{Allotted, Refused}
 use Rattle.allotment.specs.Areas.{sizeFor, answerSize}
 use Rattle.allotment.proofs.Files.AreaSeats.{closings-few}
-use Rattle.allotment.specs.Outcome.{Outcome, allotted, refused, outcomeOf, outcome}
+use Rattle.round.specs.Calls.{Outcome, said, refused}
+use Rattle.allotment.specs.Outcome.{outcomeOf, outcome}
 use Rattle.allotment.specs.Promise.{Promise}
 use Rattle.allotment.proofs.Files.Accepting.{outcome-refused, outcome-allotted, answer-written}
 use Rattle.text.specs.Put.{Fits, Put, Front}
@@ -41,11 +42,11 @@ size-most Wide listed n m l k = omega (arith, closings-few listed {m = m} refl k
 -- a call with areas for the largest round
 module _ {file answer work answerNow workNow : List ℕ} {told : Answer}
     (promise : Promise file answer work told answerNow workNow) (long : length answer ≡ 26560) (wide : length work ≡ 4096) where
-  abbrev here : Outcome
+  abbrev here : Outcome ℕ
   here = outcome file (length answer) (length work)
 
   -- a file that passes is allotted
-  passing : verdict file ≡ passes → here ≡ allotted (offersMade (roundOf file))
+  passing : verdict file ≡ passes → here ≡ said (offersMade (roundOf file))
   passing e =
       outcome-allotted file (length answer) (length work) e
       (omega (
@@ -54,7 +55,7 @@ module _ {file answer work answerNow workNow : List ℕ} {told : Answer}
       )) (omega (arith, sound file e .candidates-most))
 
   module _ {offers : ℕ} (allots : told ≡ Allotted offers) where
-    as-allotted : here ≡ allotted offers
+    as-allotted : here ≡ said offers
     as-allotted = sym (promise .answered) ∙ ap outcomeOf allots
 
     passes-then : (v : Verdict) → verdict file ≡ v → verdict file ≡ passes
@@ -66,7 +67,7 @@ module _ {file answer work answerNow workNow : List ℕ} {told : Answer}
 
     pub answered : Answered file offers answerNow
     answered =
-        let same : _≡_ {A = Outcome} (allotted offers) (allotted (offersMade (roundOf file))) = sym as-allotted ∙ passing accepted in
+        let same : _≡_ {A = Outcome ℕ} (said offers) (said (offersMade (roundOf file))) = sym as-allotted ∙ passing accepted in
         record {
           accepted = accepted;
           counted = cc;
@@ -85,7 +86,7 @@ module _ {file answer work answerNow workNow : List ℕ} {told : Answer}
     printed-refused : (v : Verdict) → verdict file ≡ v → printedBy v (roundOf file) ≡ refusedLine number offset
     printed-refused passes e = let z = passing e in cc (z, as-refused)
     printed-refused (Refusal.refused n o) e =
-        let z : _≡_ {A = Outcome} (refused n o) (refused number offset) = sym (outcome-refused file (length answer) (length work) n o e) ∙ as-refused in
+        let z : _≡_ {A = Outcome ℕ} (refused n o) (refused number offset) = sym (outcome-refused file (length answer) (length work) n o e) ∙ as-refused in
         cc
 
     pub printed-line : {area now : List ℕ} {size : ℕ} → 94208 ≤ length area → val.Fits w64 number → val.Fits w64 offset

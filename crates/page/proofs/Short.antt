@@ -9,7 +9,7 @@ use Rattle.round.specs.Form.{seatWidth}
 use Rattle.round.proofs.Joined.{joined-short}
 use Rattle.offers.specs.Process.{Seat}
 use Rattle.allotment.specs.Areas.{closingCount, closingWidth, typeStanding}
-use Rattle.allotment.proofs.Files.Putting.{places-few}
+use Rattle.allotment.proofs.Files.Closing.{places-few}
 use Rattle.offers.specs.Areas.{seatIn}
 use Rattle.text.specs.Ascii.{ascii}
 use Rattle.text.specs.Decimal.{decimal, nextNumber, named}

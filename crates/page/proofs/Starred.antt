@@ -9,7 +9,7 @@ use lib.ListN.{length, drop, replicate}
 use Rattle.round.specs.Records.{startOf, formOf}
 use Rattle.round.specs.Questions.{questionsAt}
 use Rattle.round.specs.Refusal.{verdict, verdictFrom}
-use Rattle.round.specs.Reading.{stepIn, dereserved, stepsIn, entryIn, candidateIn, instituteFrom, roundOf}
+use Rattle.round.specs.Reading.{stepIn, dereserved, stepsIn, entryIn, rowIn, candidateIn, instituteFrom, roundOf}
 use Rattle.round.specs.Lists.{greatest, joined}
 use Rattle.choice.specs.Use.{holds, oneLess, useOf}
 use Rattle.choice.specs.Gathers.{gathered}
@@ -22,7 +22,8 @@ use Rattle.offers.specs.Offers.{placeOn, stepsOn, accountOn}
 use Rattle.offers.specs.Process.{madeTo, chosen, seatBy, seatsAfter, mayOffer, turn, turns, tried, offersMade, seats, accountAtEnd, typeBy, typesUsed}
 use Rattle.offers.specs.Areas.{wordBytes}
 use Rattle.allotment.specs.Areas.{closingCount, closingWidth, placesTo, closingBytes, answerBytes}
-use Rattle.allotment.specs.Outcome.{Outcome, allotted, refused, outcome, answerAfter, workAfter}
+use Rattle.round.specs.Calls.{Outcome, said, refused}
+use Rattle.allotment.specs.Outcome.{outcome, answerAfter, workAfter}
 use Rattle.text.specs.Ascii.{ascii}
 use Rattle.text.specs.Decimal.{decimalBy}
 use Rattle.page.specs.Page.{placesLine, page, printedFor, printed}
@@ -154,7 +155,7 @@ meritOfNone = 0x00 ∷ 0x00 ∷ 0x04 ∷ 0x00 ∷ []
 
 -- a call on a file, or what the document says of one: the answer, both areas afterwards, and what the program prints for the file
 pub record Call : Type 0 where
-  pub answer : Outcome
+  pub answer : Outcome ℕ
   pub answerArea : Bytes
   pub workArea : Bytes
   pub text : Bytes
@@ -184,7 +185,7 @@ overwritten bytes size = bytes ++ drop (length bytes) (lent size)
 -- allotted: so many offers, each candidate's seat, the one institute's closing places, each candidate's type; 8 work bytes a candidate are 0
 abbrev allots : ℕ → List Bytes → List ℕ → List ℕ → String → Call
 allots offers list closing types text = record {
-  answer = allotted offers;
+  answer = said offers;
   answerArea = overwritten (joined list ++ joined (map wordBytes closing) ++ types) 40;
   workArea = overwritten (joined (map (λ s. replicate 8 0) list)) 32;
   text = ascii text;
@@ -263,5 +264,5 @@ table =
     []
 
 pub starred : map (λ c. called (c .file)) table ≡ map (λ c. c .expected) table
-unfolding called startOf formOf questionsAt verdict verdictFrom stepIn dereserved stepsIn entryIn candidateIn instituteFrom roundOf holds oneLess greatest useOf raises takenBefore takenForUse remaining takenByMerit taken gathered suits firstPlacing typesOf considers positionsAt takenAt vacantAt advance advanceAll nothingDone choose accountAt accountFrom account closingPlace rankIn placeOn stepsOn accountOn madeTo chosen seatBy seatsAfter mayOffer turn turns tried offersMade seats accountAtEnd typeBy typesUsed closingCount closingWidth placesTo closingBytes answerBytes outcome answerAfter workAfter decimalBy placesLine page printedFor printed
+unfolding called startOf formOf questionsAt verdict verdictFrom stepIn dereserved stepsIn entryIn rowIn candidateIn instituteFrom roundOf holds oneLess greatest useOf raises takenBefore takenForUse remaining takenByMerit taken gathered suits firstPlacing typesOf considers positionsAt takenAt vacantAt advance advanceAll nothingDone choose accountAt accountFrom account closingPlace rankIn placeOn stepsOn accountOn madeTo chosen seatBy seatsAfter mayOffer turn turns tried offersMade seats accountAtEnd typeBy typesUsed closingCount closingWidth placesTo closingBytes answerBytes outcome answerAfter workAfter decimalBy placesLine page printedFor printed
 starred = refl

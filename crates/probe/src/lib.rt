@@ -1,14 +1,14 @@
 // The reader and one institute's choice as functions for C and Rust, so that each can be compared with the second program by
 // itself. Not part of the unit.
+use choice::account::account_table;
 use choice::choose;
 use round::form::Form;
 use round::head::Head;
 use round::head::own_steps;
 use round::institute::list_no;
 use round::reader::Reading;
-use round::reader::candidate_table;
 use round::reader::read_round;
-use round::reader::wide_table;
+use round::reader::start_table;
 use round::records::institute_allowed;
 use round::rules::rule_table;
 use round::rules::rules_of;
@@ -22,9 +22,8 @@ ghost use Rattle.probe.specs.Probe.{verdictIn, headWith, bodyFits, place
 pub extern "C" fn tazbilk_verdict(file: &[u8], result: &mut [u64; 2])
     ensures { λ _. ⌜ now (result .exit) ≡ verdictIn (now (result .entry)) (verdict (now (file .entry))) ⌝ }
 {
-    let mut candidates = candidate_table();
-    let mut merits = wide_table();
-    let got = read_round(file, &mut candidates, &mut merits);
+    let mut starts = start_table();
+    let got = read_round(file, &mut starts);
     match got {
         Reading::Read(_) => {
             result[0] = 0;
@@ -109,5 +108,16 @@ pub extern "C" fn tazbilk_choose(
     }
     let mut rules = rule_table();
     let count = rules_of(body, head_with(types, policy), &mut rules);
-    choose(&rules, types, count, marks, offers, true, steps, used);
+    let mut noted = account_table();
+    choose(
+        &rules,
+        types,
+        count,
+        marks,
+        offers,
+        true,
+        steps,
+        used,
+        &mut noted,
+    );
 }

@@ -14,17 +14,15 @@ use borrow.Author.Tests.{eq-eqb, ne-eqb}
 use Rattle.round.specs.declared.entry.Category.{Category}
 use Rattle.round.specs.Category.{codeOf}
 use Rattle.round.specs.Round.{Round}
-use Rattle.round.specs.Reading.{roundOf}
 use Rattle.choice.specs.Use.{holds}
 use Rattle.choice.proofs.Counting.{sameOr}
 use Rattle.offers.specs.Rows.{sameCategory}
 use Rattle.offers.specs.Offers.{stepFor}
-use Rattle.offers.specs.Process.{candidateCount}
+use Rattle.offers.specs.Process.{Seat, candidateCount}
 use Rattle.offers.specs.Sweeps.{offerTo, offersBy}
 use Rattle.offers.proofs.Sweeps.Lasts.{holds-only}
 use Rattle.review.specs.Finding.{withEntry}
-use Rattle.review.specs.Outcome.{listFor}
-use Rattle.review.specs.Tables.{AllRead, askedWith, wantedWith, offersWith}
+use Rattle.review.specs.Tables.{SeatsRead, askedWith, wantedWith, offersWith}
 use Rattle.review.proofs.SeatsOffered.{offers-listed}
 
 -- two sets together have what either has
@@ -75,13 +73,12 @@ module _ (j i : ℕ) (c : Category) (asked wanted : List ℕ) {asked' wanted' : 
   wanted-back = back-again wanted i (bitOr (offerTo (j + 1) asked wanted i) (2 ^ codeOf c)) w
 
 -- where the tables have the listed seats
-module _ (file list : List ℕ) {asked wanted : List ℕ} (read : AllRead file list asked wanted)
-    (i : ℕ) (inside : i < candidateCount (roundOf file)) where
+module _ {r : Round} {seats : List Seat} {asked wanted : List ℕ} (read : SeatsRead r seats (candidateCount r) asked wanted)
+    (i : ℕ) (inside : i < candidateCount r) where
   -- candidate k's offer of a category d, where i's of a category c is added
-  offer-added : (j : ℕ) (c : Category) (k : ℕ) (d : Category)
-      → offersWith j i c asked wanted k d ≡ withEntry (roundOf file) (listFor file list) j i c k d
+  offer-added : (j : ℕ) (c : Category) (k : ℕ) (d : Category) → offersWith j i c asked wanted k d ≡ withEntry r seats j i c k d
   unfolding offersWith askedWith wantedWith withEntry offersBy
-  offer-added j c k d = rw (← offers-listed file list read j) (sameOr k i own other)
+  offer-added j c k d = rw (← offers-listed read j) (sameOr k i own other)
     where
       v : ℕ
       v = bitOr (offerTo (suc j) asked wanted i) (2 ^ codeOf c)
@@ -95,5 +92,5 @@ module _ (file list : List ℕ) {asked wanted : List ℕ} (read : AllRead file l
       other : k ≢ i → offersWith j i c asked wanted k d ≡ (offersBy (offerTo (suc j) asked wanted) k d || (eqb k i && sameCategory c d))
       other n = rw (offer-kept (suc j) i v asked wanted k n, ne-eqb k i n, or-false)
 
-  pub offers-added : (j : ℕ) (c : Category) → offersWith j i c asked wanted ≡ withEntry (roundOf file) (listFor file list) j i c
+  pub offers-added : (j : ℕ) (c : Category) → offersWith j i c asked wanted ≡ withEntry r seats j i c
   offers-added j c = fun-ext (λ k. fun-ext (λ d. offer-added j c k d))

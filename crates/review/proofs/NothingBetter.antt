@@ -52,14 +52,14 @@ module _ {types : ℕ} {r : Round} (sound : Sound types r) (list : List Seat) (m
 
     entry-is : entryOf j c ≡ entry
     entry-is =
-        let q : suc (entry .institute - 1) ≡ entry .institute = omega (arith, sound .candidate i l .entry-from p listed) in
+        let q : suc (entry .institute - 1) ≡ entry .institute = omega (arith, sound .candidate i l .row-sound .entry-from p listed) in
         λ k. record { institute = q k; category = c }
 
     rank-is : rankIn (rowAt r i) (entryOf j c) ≡ p
     rank-is = ap (λ (e : Entry). rankIn (rowAt r i) e) entry-is ∙ rank-place r i (sound .candidate i l) p listed
 
     inside : j < instituteCount r
-    inside = omega (arith, sound .candidate i l .entry-from p listed, sound .candidate i l .entry-to p listed)
+    inside = omega (arith, sound .candidate i l .row-sound .entry-from p listed, sound .candidate i l .row-sound .entry-to p listed)
 
     not-given : given r list j i c ≡ true → ⊥
     not-given t = omega (arith, given-above r list many right j i c l t .0, rank-is)

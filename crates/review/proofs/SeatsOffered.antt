@@ -7,9 +7,8 @@ use native.Mathlib.Omega.{arith}
 use lib.ListN.{getD}
 use borrow.Author.Tests.{eq-eqb, ne-eqb}
 use Rattle.round.specs.declared.entry.Category.{Category}
+use Rattle.round.specs.declared.form.Form.{Form}
 use Rattle.round.specs.Round.{Round}
-use Rattle.round.specs.Records.{formOf}
-use Rattle.round.specs.Reading.{roundOf}
 use Rattle.round.proofs.Words.{tabulate-at}
 use Rattle.choice.proofs.Counting.{test, lessOr, sameOr, clash}
 use Rattle.offers.specs.Rows.{categoryAt}
@@ -19,23 +18,17 @@ use Rattle.offers.specs.Stable.{seatOn, given}
 use Rattle.offers.specs.Sweeps.{offerTo, offersBy}
 use Rattle.offers.proofs.Sweeps.Lasts.{holds-only, holds-none}
 use Rattle.review.specs.Finding.{inRow, listedAt}
-use Rattle.review.specs.Outcome.{listFor}
-use Rattle.review.specs.Tables.{AllRead}
+use Rattle.review.specs.Outcome.{listOf}
+use Rattle.review.specs.Tables.{SeatsRead}
 use Rattle.review.proofs.InRow.{in-row, row-beyond}
 
--- the seat of candidate i is read from the bytes by the form of the file
-pub seat-at : (file list : List ℕ) (i : ℕ) → i < candidateCount (roundOf file) → seatOn (listFor file list) i ≡ seatIn (formOf file) list i
+-- the seat of candidate i is read from the bytes
+pub seat-at : (form : Form) (r : Round) (list : List ℕ) (i : ℕ) → i < candidateCount r → seatOn (listOf form r list) i ≡ seatIn form list i
 unfolding seatsIn
-seat-at file list i l = tabulate-at (candidateCount (roundOf file)) (seatIn (formOf file) list) noSeat i l
+seat-at form r list i l = tabulate-at (candidateCount r) (seatIn form list) noSeat i l
 
 -- the tables have every listed seat that is in its row
-module _ (file list : List ℕ) {asked wanted : List ℕ} (read : AllRead file list asked wanted) where
-  abbrev r : Round
-  r = roundOf file
-
-  abbrev seats : List Seat
-  seats = listFor file list
-
+module _ {r : Round} {seats : List Seat} {asked wanted : List ℕ} (read : SeatsRead r seats (candidateCount r) asked wanted) where
   -- who has no seat in the row has no offer
   pub no-offer : (i : ℕ) → inRow r seats i ≡ false → getD asked i 0 ≡ 0
   no-offer i f = lessOr i (candidateCount r) (λ l. read .nobody i l f) (λ l. read .later i l)

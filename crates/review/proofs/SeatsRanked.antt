@@ -8,23 +8,21 @@ use lib.Dec.{leb, ltb}
 use lib.ListN.{length}
 use borrow.Author.Tests.{leb-true, not-false}
 use Rattle.round.specs.declared.entry.Category.{Category}
-use Rattle.round.specs.declared.form.Form.{Form}
-use Rattle.round.specs.declared.head.Head.{Head}
+use Rattle.round.specs.declared.opened.Opened.{Opened}
 use Rattle.round.specs.Form.{seatWidth}
 use Rattle.round.specs.Questions.{within}
 use Rattle.round.specs.Round.{Round}
 use Rattle.round.specs.Places.{stepNumbers}
-use Rattle.round.specs.Reading.{roundOf}
-use Rattle.round.specs.Access.{CandidateKnown, InstituteKnown}
+use Rattle.round.specs.Opened.{openedRound}
 use Rattle.round.proofs.Words.{and-fst, and-snd, within-no, within-yes}
 use Rattle.offers.specs.Rows.{rowAt, rankIn, categoryAt}
 use Rattle.offers.specs.Process.{Seat, instituteCount}
 use Rattle.offers.specs.Areas.{seatIn}
 use Rattle.offers.specs.Standing.{isStep, seatRank}
 use Rattle.offers.specs.Stable.{seatOn}
-use Rattle.offers.proofs.Sweeps.Known.{form-is, knows-candidate, knows-institute, candidates-few, candidates-many, institutes-many}
+use Rattle.offers.proofs.Sweeps.Known.{candidates-few, candidates-many, institutes-many}
 use Rattle.review.specs.Finding.{inRow, above}
-use Rattle.review.specs.Outcome.{listFor}
+use Rattle.review.specs.Outcome.{listOf}
 use Rattle.review.specs.Tables.{UnderReview}
 use Rattle.review.proofs.InRow.{step-numbers, rank-none}
 use Rattle.offers.proofs.SeatBytes.{seat-inside}
@@ -49,39 +47,34 @@ module _ (last number : ℕ) {a : Bool} (told : a ≡ within 1 last number) (t :
   pub tested-most : {most : ℕ} → last ≡ most → number ≤ most
   tested-most e = rw e at (leb-true number last (and-snd (leb 1 number) _ passed))
 
-module _ {file : List ℕ} {h : Head} {candidates merits list : List ℕ}
-    (at : UnderReview file h candidates merits list) {i : ℕ} (inside : i < h .candidates) where
+  pub tested-inside : number - 1 < last
+  tested-inside = omega (arith, tested-least, tested-most refl)
+
+module _ {file : List ℕ} {o : Opened} {row starts list : List ℕ} (at : UnderReview file o row starts list) {i : ℕ} (inside : i < o .head .candidates) where
   abbrev r : Round
-  r = roundOf file
+  r = openedRound file o row
 
   abbrev seats : List Seat
-  seats = listFor file list
-
-  pub candidate-known : CandidateKnown file candidates i
-  candidate-known = knows-candidate (at .hand) inside
+  seats = listOf (o .head .form) r list
 
   -- the bytes of the seat stand in the list
-  pub bytes-inside : (i < 512) × (seatWidth (h .form) * i + seatWidth (h .form) ≤ length list)
-  bytes-inside = (omega (arith, candidates-few (at .hand)), seat-inside (h .form) (at .size) inside)
+  pub bytes-inside : (i < 512) × (seatWidth (o .head .form) * i + seatWidth (o .head .form) ≤ length list)
+  bytes-inside = (omega (arith, candidates-few (at .hand)), seat-inside (o .head .form) (at .size) inside)
 
-  pub bytes-seat : seatOn seats i ≡ seatIn (h .form) list i
-  bytes-seat = seat-at file list i (omega (arith, candidates-many (at .hand))) ∙ ap (λ (form : Form). seatIn form list i) (form-is (at .hand))
-
-  pub institute-known : (number : ℕ) {a : Bool} → a ≡ within 1 (h .institutes) number → not a ≡ false → InstituteKnown file h merits (number - 1)
-  institute-known number told t =
-      knows-institute (at .hand) (omega (arith, tested-least (h .institutes) number told t, tested-most (h .institutes) number told t refl))
+  pub bytes-seat : seatOn seats i ≡ seatIn (o .head .form) list i
+  bytes-seat = seat-at (o .head .form) r list i (omega (arith, candidates-many (at .hand)))
 
   -- by what the code has read of the seat's institute and tested
-  module _ {number : ℕ} {a : Bool} (reads : number ≡ seatIn (h .form) list i .institute) (told : a ≡ within 1 (h .institutes) number) where
+  module _ {number : ℕ} {a : Bool} (reads : number ≡ seatIn (o .head .form) list i .institute) (told : a ≡ within 1 (o .head .institutes) number) where
     -- it is none of the round
     pub above-no-institute : not a ≡ true → {x : ℕ} → x ≡ length (rowAt r i) → x ≡ above r seats i
     unfolding above isStep
     above-no-institute f e =
-        e ∙ sym (rank-none r i (seatOn seats i) (rw (bytes-seat, institutes-many (at .hand), within-no 1 (h .institutes) reads told f)))
+        e ∙ sym (rank-none r i (seatOn seats i) (rw (bytes-seat, institutes-many (at .hand), within-no 1 (o .head .institutes) reads told f)))
 
     -- and of its step
     module _ {last step : ℕ} {b : Bool} (last-is : last ≡ stepNumbers r (number - 1))
-        (reads-step : step ≡ seatIn (h .form) list i .step) (told-step : b ≡ within 1 last step) where
+        (reads-step : step ≡ seatIn (o .head .form) list i .step) (told-step : b ≡ within 1 last step) where
       -- it is none of the institute
       pub above-no-step : not b ≡ true → {x : ℕ} → x ≡ length (rowAt r i) → x ≡ above r seats i
       unfolding above isStep
@@ -97,7 +90,7 @@ module _ {file : List ℕ} {h : Head} {candidates merits list : List ℕ}
           rw (
             bytes-seat,
             institutes-many (at .hand),
-            within-yes 1 (h .institutes) reads told t,
+            within-yes 1 (o .head .institutes) reads told t,
             ← reads,
             ← last-is,
             within-yes 1 last reads-step told-step u,

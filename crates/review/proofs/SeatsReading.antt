@@ -7,71 +7,69 @@ use native.Mathlib.Omega.{arith}
 use lib.ListN.{length, getD, set, replicate, length-set}
 use lib.Seq.{getD-set-same, getD-set-other}
 use Rattle.round.specs.declared.entry.Category.{Category}
-use Rattle.round.specs.declared.head.Head.{Head}
+use Rattle.round.specs.declared.opened.Opened.{Opened}
 use Rattle.round.specs.Category.{codeOf}
 use Rattle.round.specs.Form.{seatWidth}
 use Rattle.round.specs.Round.{Round}
 use Rattle.round.specs.Places.{stepNumbers}
-use Rattle.round.specs.Reading.{roundOf}
-use Rattle.round.specs.Access.{InstituteKnown}
+use Rattle.round.specs.Opened.{openedRound}
 use Rattle.choice.proofs.Counting.{clash, sameOr}
 use Rattle.choice.proofs.Steps.{sized}
 use Rattle.choice.proofs.Tabulate.{getD-zeros}
 use Rattle.offers.specs.Rows.{categoryAt}
 use Rattle.offers.specs.Process.{Seat, instituteCount}
 use Rattle.offers.specs.Areas.{seatIn}
-use Rattle.offers.proofs.Sweeps.Known.{candidates-many, institutes-many, knows-institute}
+use Rattle.offers.proofs.Sweeps.Known.{candidates-many, institutes-many}
 use Rattle.review.specs.Finding.{inRow}
-use Rattle.review.specs.Outcome.{listFor}
+use Rattle.review.specs.Outcome.{listOf}
 use Rattle.review.specs.Tables.{UnderReview, SeatsRead, AllRead}
 use Rattle.review.proofs.InRow.{row-numbers}
 use Rattle.review.proofs.SeatsRanked.{bytes-seat}
 
-module _ {file : List ℕ} {h : Head} {candidates merits list : List ℕ} (at : UnderReview file h candidates merits list) where
+module _ {file : List ℕ} {o : Opened} {row starts list : List ℕ} (at : UnderReview file o row starts list) where
   abbrev r : Round
-  r = roundOf file
+  r = openedRound file o row
 
   abbrev seats : List Seat
-  seats = listFor file list
+  seats = listOf (o .head .form) r list
 
-  pub none-read : {asked wanted : List ℕ} → asked ≡ replicate (h .candidates) 0 → length wanted ≡ h .candidates → SeatsRead r seats 0 asked wanted
+  pub none-read : {asked wanted : List ℕ} → asked ≡ replicate (o .head .candidates) 0 → length wanted ≡ o .head .candidates → SeatsRead r seats 0 asked wanted
   none-read e many = record {
-    asked-many = sized (h .candidates) e ∙ sym (candidates-many (at .hand));
+    asked-many = sized (o .head .candidates) e ∙ sym (candidates-many (at .hand));
     wanted-many = many ∙ sym (candidates-many (at .hand));
     asked-at = λ i l. absurd (omega arith);
     wanted-at = λ i l. absurd (omega arith);
     nobody = λ i l. absurd (omega arith);
-    later = λ i l. ap (λ (t : List ℕ). getD t i 0) e ∙ getD-zeros (h .candidates) i;
+    later = λ i l. ap (λ (t : List ℕ). getD t i 0) e ∙ getD-zeros (o .head .candidates) i;
   }
 
   -- each table has a place for each candidate
-  pub asked-long : {k : ℕ} {asked wanted : List ℕ} → SeatsRead r seats k asked wanted → length asked ≡ h .candidates
+  pub asked-long : {k : ℕ} {asked wanted : List ℕ} → SeatsRead r seats k asked wanted → length asked ≡ o .head .candidates
   asked-long s = s .asked-many ∙ candidates-many (at .hand)
 
-  pub wanted-long : {k : ℕ} {asked wanted : List ℕ} → SeatsRead r seats k asked wanted → length wanted ≡ h .candidates
+  pub wanted-long : {k : ℕ} {asked wanted : List ℕ} → SeatsRead r seats k asked wanted → length wanted ≡ o .head .candidates
   wanted-long s = s .wanted-many ∙ candidates-many (at .hand)
 
   -- and the list has a seat's bytes for each of these places
-  pub list-long : {k : ℕ} {asked wanted : List ℕ} → SeatsRead r seats k asked wanted → length list ≡ seatWidth (h .form) * length asked
-  list-long s = at .size ∙ ap (λ (n : ℕ). seatWidth (h .form) * n) (sym (asked-long s))
+  pub list-long : {k : ℕ} {asked wanted : List ℕ} → SeatsRead r seats k asked wanted → length list ≡ seatWidth (o .head .form) * length asked
+  list-long s = at .size ∙ ap (λ (n : ℕ). seatWidth (o .head .form) * n) (sym (asked-long s))
 
   -- all candidates are passed
-  pub all-read : {k : ℕ} {asked wanted : List ℕ} → SeatsRead r seats k asked wanted → k ≡ h .candidates → AllRead file list asked wanted
+  pub all-read : {k : ℕ} {asked wanted : List ℕ} → SeatsRead r seats k asked wanted → k ≡ o .head .candidates → AllRead r (o .head .form) list asked wanted
   all-read {asked = asked} {wanted = wanted} s e = subst (λ n. SeatsRead r seats n asked wanted) (e ∙ sym (candidates-many (at .hand))) s
 
-  module _ {k : ℕ} (inside : k < h .candidates) {b : Bool} (told : b ≡ inRow r seats k) where
+  module _ {k : ℕ} (inside : k < o .head .candidates) {b : Bool} (told : b ≡ inRow r seats k) where
     -- the seat in the row names an institute and a step of it, as the code has read them
-    module _ {number : ℕ} (reads : number ≡ seatIn (h .form) list k .institute) (t : b ≡ true) where
-      numbers : (1 ≤ number) × (number ≤ instituteCount r) × (1 ≤ seatIn (h .form) list k .step) × (seatIn (h .form) list k .step ≤ stepNumbers r (number - 1))
+    module _ {number : ℕ} (reads : number ≡ seatIn (o .head .form) list k .institute) (t : b ≡ true) where
+      numbers : (1 ≤ number) × (number ≤ instituteCount r) × (1 ≤ seatIn (o .head .form) list k .step) × (seatIn (o .head .form) list k .step ≤ stepNumbers r (number - 1))
       numbers = rw (reads, ← bytes-seat at inside) (row-numbers r seats k (sym told ∙ t))
 
       pub row-institute-least : 1 ≤ number
       row-institute-least = numbers .0
 
-      pub row-step-known : {step : ℕ} → step ≡ seatIn (h .form) list k .step
-          → InstituteKnown file h merits (number - 1) × ((1 ≤ step) × (step ≤ stepNumbers r (number - 1)))
-      row-step-known e =
-          (knows-institute (at .hand) (omega (arith, numbers .0, numbers .1, institutes-many (at .hand))), rw e (numbers .2, numbers .3))
+      pub row-step-known : {step : ℕ} → step ≡ seatIn (o .head .form) list k .step
+          → (number - 1 < o .head .institutes) × (1 ≤ step) × (step ≤ stepNumbers r (number - 1))
+      row-step-known e = (omega (arith, numbers .0, numbers .1, institutes-many (at .hand)), rw e (numbers .2), rw e (numbers .3))
 
     module _ {asked wanted : List ℕ} (s : SeatsRead r seats k asked wanted) where
       pub one-skipped : b ≡ false → {asked' wanted' : List ℕ} → asked' ≡ asked → wanted' ≡ wanted → SeatsRead r seats (k + 1) asked' wanted'
@@ -86,8 +84,8 @@ module _ {file : List ℕ} {h : Head} {candidates merits list : List ℕ} (at : 
             later = λ i l. s .later i (omega arith);
           }
 
-      pub one-read : b ≡ true → {asked' wanted' : List ℕ} {number step categories : ℕ} {c : Category} → number ≡ seatIn (h .form) list k .institute
-          → step ≡ seatIn (h .form) list k .step → c ≡ categoryAt r (number - 1) step → categories ≡ 2 ^ codeOf c
+      pub one-read : b ≡ true → {asked' wanted' : List ℕ} {number step categories : ℕ} {c : Category} → number ≡ seatIn (o .head .form) list k .institute
+          → step ≡ seatIn (o .head .form) list k .step → c ≡ categoryAt r (number - 1) step → categories ≡ 2 ^ codeOf c
           → asked' ≡ set asked k number → wanted' ≡ set wanted k categories → SeatsRead r seats (k + 1) asked' wanted'
       one-read t {number = number} {categories = categories} en ep ec es ea ew =
           let in-asked : k < length asked = omega (arith, asked-long s) in

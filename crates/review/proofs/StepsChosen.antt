@@ -7,10 +7,10 @@ use native.Mathlib.Omega.{arith}
 use lib.ListN.{length, getD, replicate, getD-replicate, List·getD-eq-default}
 use borrow.Author.Tests.{eqb-true, lt-ltb, not-false}
 use Rattle.round.specs.declared.entry.Category.{Category}
-use Rattle.round.specs.declared.head.Head.{Head}
+use Rattle.round.specs.declared.opened.Opened.{Opened}
 use Rattle.round.specs.Round.{Round, Institute}
 use Rattle.round.specs.Places.{noInstitute}
-use Rattle.round.specs.Reading.{roundOf}
+use Rattle.round.specs.Opened.{openedRound, AtHand}
 use Rattle.round.proofs.Words.{and-no}
 use Rattle.choice.proofs.Tabulate.{getD-zeros}
 use Rattle.choice.proofs.Steps.{sized}
@@ -18,7 +18,6 @@ use Rattle.choice.proofs.Counting.{clash, test, lessOr, sameOr}
 use Rattle.offers.specs.Rows.{categoryAt}
 use Rattle.offers.specs.Offers.{placeOn, stepFor}
 use Rattle.offers.specs.Process.{candidateCount}
-use Rattle.offers.specs.Held.{AtHand}
 use Rattle.offers.specs.Sweeps.{offerTo, offersBy, takesPart, ChosenAll}
 use Rattle.offers.proofs.Rounds.Places.{meritLength}
 use Rattle.offers.proofs.Rounds.Agreed.{step-absent, step-taken}
@@ -45,17 +44,17 @@ module _ (r : Round) (j : ℕ) (offer : ℕ → ℕ) (i : ℕ) where
       (λ l. step-unoffered (eqb-true (offer i) 0 (not-false _ (and-no _ _ f (lt-ltb (placeOn r j i) (meritLength r j) l)))))
       (λ l. step-absent r j (offersBy offer) i (λ m. omega arith))
 
--- every institute of a file has chosen, and nobody had a step before
-module _ {file : List ℕ} {h : Head} {candidates merits : List ℕ} (at : AtHand file h candidates merits)
-    {asked wanted fresh steps₀ steps : List ℕ} (chosen : ChosenAll (roundOf file) asked wanted fresh (h .institutes) steps₀ steps)
-    (marked : fresh ≡ replicate 1000 1) (none : steps₀ ≡ replicate (h .candidates) 0) where
+-- every institute has chosen, and nobody had a step before
+module _ {file : List ℕ} {o : Opened} {row starts : List ℕ} (at : AtHand file o row starts)
+    {asked wanted fresh steps₀ steps : List ℕ} (chosen : ChosenAll (openedRound file o row) asked wanted fresh (o .head .institutes) steps₀ steps)
+    (marked : fresh ≡ replicate 1000 1) (none : steps₀ ≡ replicate (o .head .candidates) 0) where
   abbrev r : Round
-  r = roundOf file
+  r = openedRound file o row
 
   no-step : (i : ℕ) → getD steps₀ i 0 ≡ 0
-  no-step i = ap (λ (l : List ℕ). getD l i 0) none ∙ getD-zeros (h .candidates) i
+  no-step i = ap (λ (l : List ℕ). getD l i 0) none ∙ getD-zeros (o .head .candidates) i
 
-  step-chosen : (i j : ℕ) → i < candidateCount r → getD asked i 0 ≡ suc j → j < h .institutes
+  step-chosen : (i j : ℕ) → i < candidateCount r → getD asked i 0 ≡ suc j → j < o .head .institutes
       → getD steps i 0 ≡ stepFor r j (offersBy (offerTo (suc j) asked wanted)) i
   step-chosen i j hi e l =
       let offer : ℕ → ℕ = offerTo (suc j) asked wanted in
@@ -64,7 +63,7 @@ module _ {file : List ℕ} {h : Head} {candidates merits : List ℕ} (at : AtHan
       ∙ test (takesPart r j offer i) (λ t. rw t) (λ f. rw f (no-step i ∙ sym (no-part-no-step r j offer i f)))
 
   -- no institute of the round has the number that is asked
-  step-outside : (i j : ℕ) → i < candidateCount r → getD asked i 0 ≡ suc j → h .institutes ≤ j
+  step-outside : (i j : ℕ) → i < candidateCount r → getD asked i 0 ≡ suc j → o .head .institutes ≤ j
       → getD steps i 0 ≡ stepFor r j (offersBy (offerTo (suc j) asked wanted)) i
   step-outside i j hi e l =
       let nobody : meritLength r j ≡ 0 =
@@ -75,6 +74,6 @@ module _ {file : List ℕ} {h : Head} {candidates merits : List ℕ} (at : AtHan
 
   pub steps-given : StepsGiven r asked wanted steps
   steps-given = record {
-    many = chosen .many ∙ sized (h .candidates) none ∙ sym (candidates-many at);
-    given = λ i j hi e. lessOr j (h .institutes) (step-chosen i j hi e) (step-outside i j hi e);
+    many = chosen .many ∙ sized (o .head .candidates) none ∙ sym (candidates-many at);
+    given = λ i j hi e. lessOr j (o .head .institutes) (step-chosen i j hi e) (step-outside i j hi e);
   }

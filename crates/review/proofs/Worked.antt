@@ -9,7 +9,7 @@ use Rattle.round.specs.Lists.{joined, greatest}
 use Rattle.round.specs.Records.{startOf, formOf}
 use Rattle.round.specs.Questions.{questionsAt}
 use Rattle.round.specs.Refusal.{verdict, verdictFrom}
-use Rattle.round.specs.Reading.{stepIn, dereserved, stepsIn, entryIn, candidateIn, instituteFrom, roundOf}
+use Rattle.round.specs.Reading.{stepIn, dereserved, stepsIn, entryIn, rowIn, candidateIn, instituteFrom, roundOf}
 use Rattle.choice.specs.Use.{holds, oneLess, useOf}
 use Rattle.choice.specs.Step.{raises, takenBefore, takenForUse, remaining, takenByMerit, taken}
 use Rattle.choice.specs.Choice.{considers, positionsAt, takenAt, vacantAt, advance, advanceAll, nothingDone, choose}
@@ -18,8 +18,9 @@ use Rattle.offers.specs.Offers.{placeOn, stepsOn, stepFor, takenFrom}
 use Rattle.offers.specs.Areas.{seatIn, seatsIn}
 use Rattle.offers.specs.Standing.{isStep, seatRank}
 use Rattle.offers.specs.Stable.{given}
-use Rattle.review.specs.Finding.{passes, wrongSeat, betterEntry, inRow, listedAt, stepDue, wrong, withEntry, wouldTake, above, best, better, entryFinding, finding}
-use Rattle.review.specs.Outcome.{Outcome, found, refused, outcome}
+use Rattle.review.specs.Finding.{Finding, passes, wrongSeat, betterEntry, inRow, listedAt, stepDue, wrong, withEntry, wouldTake, above, best, better, entryFinding, finding}
+use Rattle.round.specs.Calls.{Outcome, said, refused}
+use Rattle.review.specs.Outcome.{outcome}
 
 abbrev Bytes : Type 0
 Bytes = List ℕ
@@ -175,13 +176,13 @@ twoLists =
 record Case : Type 0 where
   file : Bytes
   list : Bytes
-  expected : Outcome
+  expected : Outcome Finding
 
-abbrev says : Bytes → Bytes → Outcome → Case
+abbrev says : Bytes → Bytes → Outcome Finding → Case
 says file list expected = record { file = file; list = list; expected = expected }
 
-abbrev entryFound : ℕ → ℕ → Category → Outcome
-entryFound candidate institute category = found (betterEntry candidate (record { institute = institute; category = category }))
+abbrev entryFound : ℕ → ℕ → Category → Outcome Finding
+entryFound candidate institute category = said (betterEntry candidate (record { institute = institute; category = category }))
 
 abbrev table : List Case
 table =
@@ -189,19 +190,19 @@ table =
     says fileA (0x00 ∷ 0x00 ∷ 0x00 ∷ 0x00 ∷ 0x01 ∷ 0x00 ∷ 0x04 ∷ 0x00 ∷ 0x01 ∷ 0x00 ∷ 0x01 ∷ 0x00 ∷ []) (refused 15 0)
     ∷
     -- another-that-passes
-    says twoThatPass (0x01 ∷ 0x04 ∷ 0x01 ∷ 0x01 ∷ []) (found passes)
+    says twoThatPass (0x01 ∷ 0x04 ∷ 0x01 ∷ 0x01 ∷ []) (said passes)
     ∷
     -- below-the-seat
-    says twoThatPass (0x01 ∷ 0x01 ∷ 0x01 ∷ 0x04 ∷ []) (found passes)
+    says twoThatPass (0x01 ∷ 0x01 ∷ 0x01 ∷ 0x04 ∷ []) (said passes)
     ∷
     -- file-first
     says oneByteMore (0x00 ∷ 0x00 ∷ 0x01 ∷ 0x04 ∷ []) (refused 13 72)
     ∷
     -- first-of-two
-    says fileA (0x01 ∷ 0x01 ∷ 0x01 ∷ 0x01 ∷ 0x01 ∷ 0x07 ∷ []) (found (wrongSeat 2))
+    says fileA (0x01 ∷ 0x01 ∷ 0x01 ∷ 0x01 ∷ 0x01 ∷ 0x07 ∷ []) (said (wrongSeat 2))
     ∷
     -- institute-2-of-1
-    says fileA (0x00 ∷ 0x00 ∷ 0x01 ∷ 0x04 ∷ 0x02 ∷ 0x01 ∷ []) (found (wrongSeat 3))
+    says fileA (0x00 ∷ 0x00 ∷ 0x01 ∷ 0x04 ∷ 0x02 ∷ 0x01 ∷ []) (said (wrongSeat 3))
     ∷
     -- left-out-of-obc
     says fileA (0x01 ∷ 0x06 ∷ 0x00 ∷ 0x00 ∷ 0x01 ∷ 0x01 ∷ []) (entryFound 2 1 OBC)
@@ -213,7 +214,7 @@ table =
     says fileA (0x00 ∷ 0x00 ∷ 0x00 ∷ 0x00 ∷ 0x00 ∷ 0x00 ∷ []) (entryFound 1 1 Open)
     ∷
     -- not-in-row
-    says fileA (0x01 ∷ 0x01 ∷ 0x01 ∷ 0x06 ∷ 0x01 ∷ 0x04 ∷ []) (found (wrongSeat 3))
+    says fileA (0x01 ∷ 0x01 ∷ 0x01 ∷ 0x06 ∷ 0x01 ∷ 0x04 ∷ []) (said (wrongSeat 3))
     ∷
     -- one-at-a-time
     says twoThatPass (0x01 ∷ 0x01 ∷ 0x00 ∷ 0x00 ∷ []) (entryFound 2 1 OBC)
@@ -228,37 +229,37 @@ table =
     says twoThatPass (0x01 ∷ 0x04 ∷ 0x00 ∷ 0x00 ∷ []) (entryFound 1 1 Open)
     ∷
     -- own
-    says fileA (0x00 ∷ 0x00 ∷ 0x01 ∷ 0x04 ∷ 0x01 ∷ 0x01 ∷ []) (found passes)
+    says fileA (0x00 ∷ 0x00 ∷ 0x01 ∷ 0x04 ∷ 0x01 ∷ 0x01 ∷ []) (said passes)
     ∷
     -- right-institute-wrong-step
-    says fileA (0x00 ∷ 0x00 ∷ 0x01 ∷ 0x01 ∷ 0x01 ∷ 0x01 ∷ []) (found (wrongSeat 2))
+    says fileA (0x00 ∷ 0x00 ∷ 0x01 ∷ 0x01 ∷ 0x01 ∷ 0x01 ∷ []) (said (wrongSeat 2))
     ∷
     -- step-0
-    says fileA (0x00 ∷ 0x00 ∷ 0x01 ∷ 0x00 ∷ 0x01 ∷ 0x01 ∷ []) (found (wrongSeat 2))
+    says fileA (0x00 ∷ 0x00 ∷ 0x01 ∷ 0x00 ∷ 0x01 ∷ 0x01 ∷ []) (said (wrongSeat 2))
     ∷
     -- step-6-policy-0
-    says oneOpenPolicy0 (0x01 ∷ 0x01 ∷ 0x01 ∷ 0x06 ∷ []) (found (wrongSeat 1))
+    says oneOpenPolicy0 (0x01 ∷ 0x01 ∷ 0x01 ∷ 0x06 ∷ []) (said (wrongSeat 1))
     ∷
     -- step-7
-    says fileA (0x00 ∷ 0x00 ∷ 0x01 ∷ 0x04 ∷ 0x01 ∷ 0x07 ∷ []) (found (wrongSeat 3))
+    says fileA (0x00 ∷ 0x00 ∷ 0x01 ∷ 0x04 ∷ 0x01 ∷ 0x07 ∷ []) (said (wrongSeat 3))
     ∷
     -- steps-13-of-12
-    says stepsTwelve (0x01 ∷ 0x0d ∷ 0x00 ∷ 0x00 ∷ 0x01 ∷ 0x04 ∷ []) (found (wrongSeat 1))
+    says stepsTwelve (0x01 ∷ 0x0d ∷ 0x00 ∷ 0x00 ∷ 0x01 ∷ 0x04 ∷ []) (said (wrongSeat 1))
     ∷
     -- steps-6-of-5
-    says stepsOneOpen (0x01 ∷ 0x01 ∷ 0x01 ∷ 0x06 ∷ []) (found (wrongSeat 2))
+    says stepsOneOpen (0x01 ∷ 0x01 ∷ 0x01 ∷ 0x06 ∷ []) (said (wrongSeat 2))
     ∷
     -- steps-file-first
     says categoryFive (0x00 ∷ 0x00 ∷ 0x01 ∷ 0x04 ∷ []) (refused 17 12)
     ∷
     -- steps-other-of-two
-    says categoryTwice (0x01 ∷ 0x01 ∷ 0x01 ∷ 0x03 ∷ 0x01 ∷ 0x02 ∷ []) (found (wrongSeat 1))
+    says categoryTwice (0x01 ∷ 0x01 ∷ 0x01 ∷ 0x03 ∷ 0x01 ∷ 0x02 ∷ []) (said (wrongSeat 1))
     ∷
     -- steps-own-of-two
-    says categoryTwice (0x01 ∷ 0x03 ∷ 0x01 ∷ 0x01 ∷ 0x01 ∷ 0x02 ∷ []) (found passes)
+    says categoryTwice (0x01 ∷ 0x03 ∷ 0x01 ∷ 0x01 ∷ 0x01 ∷ 0x02 ∷ []) (said passes)
     ∷
     -- steps-own
-    says stepsA (0x00 ∷ 0x00 ∷ 0x01 ∷ 0x04 ∷ 0x01 ∷ 0x01 ∷ []) (found passes)
+    says stepsA (0x00 ∷ 0x00 ∷ 0x01 ∷ 0x04 ∷ 0x01 ∷ 0x01 ∷ []) (said passes)
     ∷
     -- steps-would-take
     says stepsChain (0x01 ∷ 0x01 ∷ 0x00 ∷ 0x00 ∷ 0x01 ∷ 0x04 ∷ 0x01 ∷ 0x04 ∷ []) (entryFound 2 1 Open)
@@ -267,16 +268,16 @@ table =
     says wideA (0x00 ∷ 0x00 ∷ 0x01 ∷ 0x04 ∷ 0x01 ∷ 0x01 ∷ []) (refused 15 0)
     ∷
     -- wide-last-byte-1
-    says wideA (0x00 ∷ 0x00 ∷ 0x00 ∷ 0x00 ∷ 0x01 ∷ 0x00 ∷ 0x04 ∷ 0x01 ∷ 0x01 ∷ 0x00 ∷ 0x01 ∷ 0x00 ∷ []) (found (wrongSeat 2))
+    says wideA (0x00 ∷ 0x00 ∷ 0x00 ∷ 0x00 ∷ 0x01 ∷ 0x00 ∷ 0x04 ∷ 0x01 ∷ 0x01 ∷ 0x00 ∷ 0x01 ∷ 0x00 ∷ []) (said (wrongSeat 2))
     ∷
     -- wide-none-last-byte-1
-    says wideA (0x00 ∷ 0x00 ∷ 0x00 ∷ 0x01 ∷ 0x01 ∷ 0x00 ∷ 0x04 ∷ 0x00 ∷ 0x01 ∷ 0x00 ∷ 0x01 ∷ 0x00 ∷ []) (found (wrongSeat 1))
+    says wideA (0x00 ∷ 0x00 ∷ 0x00 ∷ 0x01 ∷ 0x01 ∷ 0x00 ∷ 0x04 ∷ 0x00 ∷ 0x01 ∷ 0x00 ∷ 0x01 ∷ 0x00 ∷ []) (said (wrongSeat 1))
     ∷
     -- wide-own
-    says wideA (0x00 ∷ 0x00 ∷ 0x00 ∷ 0x00 ∷ 0x01 ∷ 0x00 ∷ 0x04 ∷ 0x00 ∷ 0x01 ∷ 0x00 ∷ 0x01 ∷ 0x00 ∷ []) (found passes)
+    says wideA (0x00 ∷ 0x00 ∷ 0x00 ∷ 0x00 ∷ 0x01 ∷ 0x00 ∷ 0x04 ∷ 0x00 ∷ 0x01 ∷ 0x00 ∷ 0x01 ∷ 0x00 ∷ []) (said passes)
     ∷
     -- wide-steps-2-of-1
-    says twoLists (0x01 ∷ 0x00 ∷ 0x02 ∷ 0x00 ∷ 0x02 ∷ 0x00 ∷ 0x01 ∷ 0x00 ∷ []) (found (wrongSeat 1))
+    says twoLists (0x01 ∷ 0x00 ∷ 0x02 ∷ 0x00 ∷ 0x02 ∷ 0x00 ∷ 0x01 ∷ 0x00 ∷ []) (said (wrongSeat 1))
     ∷
     -- wide-steps-2-of-2
     says twoLists (0x02 ∷ 0x00 ∷ 0x02 ∷ 0x00 ∷ 0x01 ∷ 0x00 ∷ 0x01 ∷ 0x00 ∷ []) (entryFound 2 2 EWS)
@@ -285,5 +286,5 @@ table =
 
 -- with a work area that suffices for each
 pub worked : map (λ c. outcome (c .file) (c .list) 32) table ≡ map (λ c. c .expected) table
-unfolding startOf formOf questionsAt verdict verdictFrom stepIn dereserved stepsIn entryIn candidateIn instituteFrom roundOf holds oneLess greatest useOf raises takenBefore takenForUse remaining takenByMerit taken considers positionsAt takenAt vacantAt advance advanceAll nothingDone choose rankIn placeOn stepsOn stepFor takenFrom seatIn seatsIn isStep seatRank given inRow listedAt stepDue wrong withEntry wouldTake above best better entryFinding finding outcome
+unfolding startOf formOf questionsAt verdict verdictFrom stepIn dereserved stepsIn entryIn rowIn candidateIn instituteFrom roundOf holds oneLess greatest useOf raises takenBefore takenForUse remaining takenByMerit taken considers positionsAt takenAt vacantAt advance advanceAll nothingDone choose rankIn placeOn stepsOn stepFor takenFrom seatIn seatsIn isStep seatRank given inRow listedAt stepDue wrong withEntry wouldTake above best better entryFinding finding outcome
 worked = refl

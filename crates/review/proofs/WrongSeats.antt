@@ -11,15 +11,13 @@ use borrow.Author.Tests.{eq-eqb, ne-eqb}
 use Rattle.round.specs.declared.form.Form.{Form}
 use Rattle.round.specs.Lists.{first}
 use Rattle.round.specs.Round.{Round}
-use Rattle.round.specs.Records.{formOf}
-use Rattle.round.specs.Reading.{roundOf}
 use Rattle.choice.proofs.Counting.{test}
 use Rattle.offers.specs.Offers.{OfferSet, stepFor}
 use Rattle.offers.specs.Process.{Seat, isNone, candidateCount}
 use Rattle.offers.specs.Areas.{seatIn}
 use Rattle.offers.specs.Stable.{seatOn}
 use Rattle.review.specs.Finding.{inRow, stepDue, wrong}
-use Rattle.review.specs.Outcome.{listFor}
+use Rattle.review.specs.Outcome.{listOf}
 use Rattle.review.specs.Tables.{AllRead, StepsGiven, wrongBy}
 use Rattle.review.proofs.FirstFound.{first-ext}
 use Rattle.review.proofs.InRow.{row-numbers}
@@ -59,13 +57,10 @@ module _ (form : Form) (list asked steps : List ℕ) (i : ℕ) where
   unfolding wrongBy
   wrong-stepped s d e f = rw (s .some, ne-eqb (getD asked i 0) 0 d, e, f)
 
-module _ (file list : List ℕ) {asked wanted steps : List ℕ}
-    (read : AllRead file list asked wanted) (steps-given : StepsGiven (roundOf file) asked wanted steps) where
-  abbrev r : Round
-  r = roundOf file
-
+module _ (r : Round) (form : Form) (list : List ℕ) {asked wanted steps : List ℕ}
+    (read : AllRead r form list asked wanted) (steps-given : StepsGiven r asked wanted steps) where
   abbrev seats : List Seat
-  seats = listFor file list
+  seats = listOf form r list
 
   -- the step that the table has for a seat in the row is the one that is due
   pub step-due : (i : ℕ) → i < candidateCount r → inRow r seats i ≡ true → getD steps i 0 ≡ stepDue r seats i
@@ -74,7 +69,7 @@ module _ (file list : List ℕ) {asked wanted steps : List ℕ}
       let j : ℕ = seatOn seats i .institute - 1 in
       let numbers = row-numbers r seats i t in
       steps-given .given i j l (read .asked-at i l t ∙ (let e : seatOn seats i .institute ≡ suc j = omega arith in e))
-      ∙ ap (λ (offers : OfferSet). stepFor r j offers i) (offers-listed file list read j)
+      ∙ ap (λ (offers : OfferSet). stepFor r j offers i) (offers-listed read j)
 
   -- the tables have an offer and the step of the seat just where the seat is in the row and its step is the one that is due
   right-by : (i : ℕ) → i < candidateCount r
@@ -86,15 +81,13 @@ module _ (file list : List ℕ) {asked wanted steps : List ℕ}
       let asked-some : eqb (getD asked i 0) 0 ≡ false =
       ne-eqb (getD asked i 0) 0 (λ z. omega (arith, read .asked-at i l t, row-numbers r seats i t)) in
       rw (asked-some, step-due i l t, t))
-      (λ f. rw (eq-eqb (getD asked i 0) 0 (no-offer file list read i f), f))
+      (λ f. rw (eq-eqb (getD asked i 0) 0 (no-offer read i f), f))
 
-  wrong-by : (i : ℕ) → i < candidateCount r → wrongBy (formOf file) list asked steps i ≡ wrong r seats i
+  wrong-by : (i : ℕ) → i < candidateCount r → wrongBy form list asked steps i ≡ wrong r seats i
   unfolding wrongBy wrong
   wrong-by i l =
-      ap (λ (s : Seat). not (isNone s) && not (not (eqb (getD asked i 0) 0) && eqb (getD steps i 0) (s .step))) (sym (seat-at file list i l))
+      ap (λ (s : Seat). not (isNone s) && not (not (eqb (getD asked i 0) 0) && eqb (getD steps i 0) (s .step))) (sym (seat-at form r list i l))
       ∙ ap (λ b. not (isNone (seatOn seats i)) && not b) (right-by i l)
 
-  -- as the code has read the form
-  pub first-wrong-by : {form : Form} → formOf file ≡ form
-      → first (candidateCount r) (wrongBy form list asked steps) ≡ first (candidateCount r) (wrong r seats)
-  first-wrong-by e = rw (← e) (first-ext (candidateCount r) (wrongBy (formOf file) list asked steps) (wrong r seats) wrong-by)
+  pub first-wrong-by : first (candidateCount r) (wrongBy form list asked steps) ≡ first (candidateCount r) (wrong r seats)
+  first-wrong-by = first-ext (candidateCount r) (wrongBy form list asked steps) (wrong r seats) wrong-by

@@ -2,4 +2,3 @@ pub mod Finding
 pub mod Outcome
 pub mod Promise
 pub mod Tables
-pub mod Handing

@@ -9,25 +9,24 @@ use lib.Dec.{eqb}
 use lib.ListN.{length, getD, set}
 use Rattle.round.specs.declared.entry.Category.{Category}
 use Rattle.round.specs.declared.form.Form.{Form}
-use Rattle.round.specs.declared.head.Head.{Head}
+use Rattle.round.specs.declared.opened.Opened.{Opened}
 use Rattle.round.specs.Category.{codeOf}
 use Rattle.round.specs.Form.{seatWidth}
 use Rattle.round.specs.Round.{Round}
-use Rattle.round.specs.Reading.{roundOf}
+use Rattle.round.specs.Opened.{AtHand}
 use Rattle.offers.specs.Rows.{categoryAt}
 use Rattle.offers.specs.Offers.{OfferSet, stepFor}
 use Rattle.offers.specs.Process.{Seat, isNone, candidateCount}
 use Rattle.offers.specs.Areas.{seatIn}
-use Rattle.offers.specs.Held.{AtHand}
 use Rattle.offers.specs.Stable.{seatOn}
 use Rattle.offers.specs.Sweeps.{offerTo, offersBy}
 use Rattle.review.specs.Finding.{inRow}
-use Rattle.review.specs.Outcome.{listFor}
+use Rattle.review.specs.Outcome.{listOf}
 
--- an accepted file, its head and the starts of its records, and a list with a seat's bytes for each candidate
-pub record UnderReview (file : List ℕ) (h : Head) (candidates merits list : List ℕ) : Type 0 where
-  pub hand : AtHand file h candidates merits
-  pub size : length list ≡ seatWidth (h .form) * h .candidates
+-- a round at hand, and a list with a seat's bytes for each candidate
+pub record UnderReview (file : List ℕ) (o : Opened) (row starts list : List ℕ) : Type 0 where
+  pub hand : AtHand file o row starts
+  pub size : length list ≡ seatWidth (o .head .form) * o .head .candidates
 
 -- of the first k candidates two tables have the seats that are in their rows, and of nobody else any
 pub record SeatsRead (r : Round) (list : List Seat) (k : ℕ) (asked wanted : List ℕ) : Type 0 where
@@ -62,5 +61,5 @@ unfoldable pub offersWith : ℕ → ℕ → Category → List ℕ → List ℕ �
 offersWith j i c asked wanted = offersBy (offerTo (suc j) (askedWith (suc j) i asked) (wantedWith (suc j) i c asked wanted))
 
 -- the tables have every listed seat that is in its row
-abbrev pub AllRead : List ℕ → List ℕ → List ℕ → List ℕ → Type 0
-AllRead file list asked wanted = SeatsRead (roundOf file) (listFor file list) (candidateCount (roundOf file)) asked wanted
+abbrev pub AllRead : Round → Form → List ℕ → List ℕ → List ℕ → Type 0
+AllRead r form list asked wanted = SeatsRead r (listOf form r list) (candidateCount r) asked wanted

@@ -8,7 +8,7 @@ use round::access::row_entry;
 use round::access::step_category;
 use round::entry::Category;
 use round::entry::code_of;
-use round::head::Head;
+use round::opened::Opened;
 use round::word::wide;
 ghost use mathlib.Core.Path.{_≡_};
 ghost use mathlib.Core.Bool.{not, _&&_};
@@ -17,14 +17,14 @@ ghost use lib.Dec.{eqb};
 ghost use lib.ListN.{length, set};
 ghost use Rattle.round.specs.Lists.{first};
 ghost use Rattle.round.specs.Places.{candidateAt, entryAt, stepNumbers};
-ghost use Rattle.round.specs.Reading.{roundOf};
-ghost use Rattle.round.specs.Access.{InstituteKnown};
+ghost use Rattle.round.specs.Round.{Round};
+ghost use Rattle.round.specs.Calls.{said};
+ghost use Rattle.round.specs.Opened.{AtHand, openedRound};
 ghost use Rattle.offers.specs.Offers.{stepFor};
 ghost use Rattle.offers.specs.Rows.{rowAt, sameCategory, categoryAt};
 ghost use Rattle.offers.specs.Sweeps.{offerTo, offersBy};
-ghost use Rattle.offers.specs.Held.{AtHand};
 ghost use Rattle.review.specs.Finding.{wouldTake, entryFinding};
-ghost use Rattle.review.specs.Outcome.{found, outcomeOf, listFor};
+ghost use Rattle.review.specs.Outcome.{outcomeOf, listOf};
 ghost use Rattle.review.specs.Tables.{UnderReview, AllRead, askedWith, wantedWith, offersWith};
 
 // Adds candidate i's entry of a category at the institute with a number.
@@ -49,31 +49,33 @@ fn put_back(asked: &mut [u16], wanted: &mut [u8], i: usize, number: u16, categor
 // The step that institute j, from 0, gives candidate i when it chooses from the offers to it.
 fn step_anew(
     file: &[u8],
-    h: Head,
-    candidates: &[usize],
-    merits: &[usize],
+    o: Opened,
+    row: &[u8],
+    starts: &[u32],
     asked: &[u16],
     wanted: &[u8],
     steps: &mut [u8],
     i: usize,
     j: usize,
 ) -> u8
-    requires { ⌜ AtHand (now file) h (now candidates) (now merits) ⌝ }
-    requires { ⌜ (i < h .candidates) × (j < h .institutes) ⌝ }
-    requires { ⌜ (length (now asked) ≡ h .candidates) × (length (now wanted) ≡ h .candidates) × (length (now steps) ≡ h .candidates) ⌝ }
-    ensures { λ r. ⌜ r ≡ stepFor (roundOf (now (file .entry))) j (offersBy (offerTo (suc j) (now (asked .entry)) (now (wanted .entry)))) i ⌝ }
+    ghost { Round }
+    requires { λ r. ⌜ openedRound (now file) o (now row) ≡ r ⌝ }
+    requires { λ _. ⌜ AtHand (now file) o (now row) (now starts) ⌝ }
+    requires { λ _. ⌜ (i < o .head .candidates) × (j < o .head .institutes) ⌝ }
+    requires { λ _. ⌜ (length (now asked) ≡ o .head .candidates) × (length (now wanted) ≡ o .head .candidates) × (length (now steps) ≡ o .head .candidates) ⌝ }
+    ensures { λ r x. ⌜ x ≡ stepFor r j (offersBy (offerTo (suc j) (now (asked .entry)) (now (wanted .entry)))) i ⌝ }
 {
     steps[i] = 0;
-    choose_anew(file, h, candidates, merits, j, asked, wanted, steps);
+    choose_anew(file, o, row, starts, j, asked, wanted, steps);
     steps[i]
 }
 
 // The step that institute j, from 0, gives candidate i where i's entry of a category there is added; the tables of offers are as before.
 fn step_with(
     file: &[u8],
-    h: Head,
-    candidates: &[usize],
-    merits: &[usize],
+    o: Opened,
+    row: &[u8],
+    starts: &[u32],
     asked: &mut [u16],
     wanted: &mut [u8],
     steps: &mut [u8],
@@ -81,38 +83,50 @@ fn step_with(
     j: usize,
     category: Category,
 ) -> u8
-    requires { ⌜ AtHand (now file) h (now candidates) (now merits) ⌝ }
-    requires { ⌜ (i < h .candidates) × (j < h .institutes) ⌝ }
-    requires { ⌜ (length (now asked) ≡ h .candidates) × (length (now wanted) ≡ h .candidates) × (length (now steps) ≡ h .candidates) ⌝ }
-    ensures { λ r. ⌜ (r ≡ stepFor (roundOf (now (file .entry))) j (offersWith j i category (now (asked .entry)) (now (wanted .entry))) i)
+    ghost { Round }
+    requires { λ r. ⌜ openedRound (now file) o (now row) ≡ r ⌝ }
+    requires { λ _. ⌜ AtHand (now file) o (now row) (now starts) ⌝ }
+    requires { λ _. ⌜ (i < o .head .candidates) × (j < o .head .institutes) ⌝ }
+    requires { λ _. ⌜ (length (now asked) ≡ o .head .candidates) × (length (now wanted) ≡ o .head .candidates) × (length (now steps) ≡ o .head .candidates) ⌝ }
+    ensures { λ r x. ⌜ (x ≡ stepFor r j (offersWith j i category (now (asked .entry)) (now (wanted .entry))) i)
         × (now (asked .exit) ≡ now (asked .entry)) × (now (wanted .exit) ≡ now (wanted .entry)) ⌝ }
 {
     let number = asked[i];
     let categories = wanted[i];
     add_entry(asked, wanted, i, j + 1, category);
-    let step = step_anew(file, h, candidates, merits, asked, wanted, steps, i, j);
+    let step = step_anew(file, o, row, starts, asked, wanted, steps, i, j);
     put_back(asked, wanted, i, number, categories);
     step
 }
 
 // Whether a step of institute j, from 0, takes entries of a category; 0 is no step.
-fn takes(file: &[u8], h: Head, merits: &[usize], j: usize, step: usize, category: Category) -> bool
-    requires { ⌜ InstituteKnown (now file) h (now merits) j ⌝ }
-    requires { ⌜ step ≤ stepNumbers (roundOf (now file)) j ⌝ }
-    ensures { λ r. ⌜ r ≡ (not (eqb step 0) && sameCategory (categoryAt (roundOf (now (file .entry))) j step) category) ⌝ }
+fn takes(
+    file: &[u8],
+    o: Opened,
+    row: &[u8],
+    starts: &[u32],
+    j: usize,
+    step: usize,
+    category: Category,
+) -> bool
+    ghost { Round }
+    requires { λ r. ⌜ openedRound (now file) o (now row) ≡ r ⌝ }
+    requires { λ _. ⌜ AtHand (now file) o (now row) (now starts) ⌝ }
+    requires { λ r. ⌜ (j < o .head .institutes) × (step ≤ stepNumbers r j) ⌝ }
+    ensures { λ r x. ⌜ x ≡ (not (eqb step 0) && sameCategory (categoryAt r j step) category) ⌝ }
 {
     if step == 0 {
         return false;
     }
-    code_of(step_category(file, h, merits, j, step)) == code_of(category)
+    code_of(step_category(file, o, row, starts, j, step)) == code_of(category)
 }
 
 // Whether the entry at place k of candidate i's row would be chosen if that one entry were added; the tables of offers are as before.
 fn would_take(
     file: &[u8],
-    h: Head,
-    candidates: &[usize],
-    merits: &[usize],
+    o: Opened,
+    row: &[u8],
+    starts: &[u32],
     list: &[u8],
     asked: &mut [u16],
     wanted: &mut [u8],
@@ -120,21 +134,22 @@ fn would_take(
     i: usize,
     k: usize,
 ) -> bool
-    requires { ⌜ UnderReview (now file) h (now candidates) (now merits) (now list) ⌝ }
-    requires { ⌜ AllRead (now file) (now list) (now asked) (now wanted) ⌝ }
-    requires { ⌜ (i < h .candidates) × (k < length (rowAt (roundOf (now file)) i)) × (length (now steps) ≡ h .candidates) ⌝ }
-    ensures { λ r. ⌜ (r ≡ wouldTake (roundOf (now (file .entry))) (listFor (now (file .entry)) (now (list .entry))) i
-        (entryAt (candidateAt (roundOf (now (file .entry))) i) k))
+    ghost { Round }
+    requires { λ r. ⌜ openedRound (now file) o (now row) ≡ r ⌝ }
+    requires { λ _. ⌜ UnderReview (now file) o (now row) (now starts) (now list) ⌝ }
+    requires { λ r. ⌜ AllRead r (o .head .form) (now list) (now asked) (now wanted) ⌝ }
+    requires { λ r. ⌜ (i < o .head .candidates) × (k < length (rowAt r i)) × (length (now steps) ≡ o .head .candidates) ⌝ }
+    ensures { λ r x. ⌜ (x ≡ wouldTake r (listOf (o .head .form) r (now (list .entry))) i (entryAt (candidateAt r i) k))
         × (now (asked .exit) ≡ now (asked .entry)) × (now (wanted .exit) ≡ now (wanted .entry)) ⌝ }
 {
-    let entry = row_entry(file, candidates, i, k);
+    let entry = row_entry(file, o, row, starts, i, k);
     let institute = entry.institute;
     let category = entry.category;
     let step = step_with(
         file,
-        h,
-        candidates,
-        merits,
+        o,
+        row,
+        starts,
         asked,
         wanted,
         steps,
@@ -142,15 +157,15 @@ fn would_take(
         institute - 1,
         category,
     );
-    takes(file, h, merits, institute - 1, wide(step), category)
+    takes(file, o, row, starts, institute - 1, wide(step), category)
 }
 
 // The place of the best of the first `above` entries of candidate i's row that would be chosen; `above` where none would.
 fn best_entry(
     file: &[u8],
-    h: Head,
-    candidates: &[usize],
-    merits: &[usize],
+    o: Opened,
+    row: &[u8],
+    starts: &[u32],
     list: &[u8],
     asked: &mut [u16],
     wanted: &mut [u8],
@@ -158,26 +173,16 @@ fn best_entry(
     i: usize,
     above: usize,
 ) -> usize
-    requires { ⌜ UnderReview (now file) h (now candidates) (now merits) (now list) ⌝ }
-    requires { ⌜ AllRead (now file) (now list) (now asked) (now wanted) ⌝ }
-    requires { ⌜ (i < h .candidates) × (above ≤ length (rowAt (roundOf (now file)) i)) × (length (now steps) ≡ h .candidates) ⌝ }
-    ensures { λ r. ⌜ (r ≡ first above (λ k. wouldTake (roundOf (now (file .entry))) (listFor (now (file .entry)) (now (list .entry))) i
-        (entryAt (candidateAt (roundOf (now (file .entry))) i) k)))
+    ghost { Round }
+    requires { λ r. ⌜ openedRound (now file) o (now row) ≡ r ⌝ }
+    requires { λ _. ⌜ UnderReview (now file) o (now row) (now starts) (now list) ⌝ }
+    requires { λ r. ⌜ AllRead r (o .head .form) (now list) (now asked) (now wanted) ⌝ }
+    requires { λ r. ⌜ (i < o .head .candidates) × (above ≤ length (rowAt r i)) × (length (now steps) ≡ o .head .candidates) ⌝ }
+    ensures { λ r x. ⌜ (x ≡ first above (λ k. wouldTake r (listOf (o .head .form) r (now (list .entry))) i (entryAt (candidateAt r i) k)))
         × (now (asked .exit) ≡ now (asked .entry)) × (now (wanted .exit) ≡ now (wanted .entry)) ⌝ }
 {
     for k in 0..above {
-        if would_take(
-            file,
-            h,
-            candidates,
-            merits,
-            list,
-            asked,
-            wanted,
-            steps,
-            i,
-            k,
-        ) {
+        if would_take(file, o, row, starts, list, asked, wanted, steps, i, k) {
             return k;
         }
     }
@@ -187,35 +192,26 @@ fn best_entry(
 // The first candidate with an entry above the seat that would be chosen, and the best such entry; else the list passes.
 pub fn find_entry(
     file: &[u8],
-    h: Head,
-    candidates: &[usize],
-    merits: &[usize],
+    o: Opened,
+    row: &[u8],
+    starts: &[u32],
     list: &[u8],
     asked: &mut [u16],
     wanted: &mut [u8],
     steps: &mut [u8],
 ) -> Judgement
-    requires { ⌜ UnderReview (now file) h (now candidates) (now merits) (now list) ⌝ }
-    requires { ⌜ AllRead (now file) (now list) (now asked) (now wanted) ⌝ }
-    requires { ⌜ length (now steps) ≡ h .candidates ⌝ }
-    ensures { λ r. ⌜ outcomeOf r ≡ found (entryFinding (roundOf (now (file .entry))) (listFor (now (file .entry)) (now (list .entry)))) ⌝ }
+    ghost { Round }
+    requires { λ r. ⌜ openedRound (now file) o (now row) ≡ r ⌝ }
+    requires { λ _. ⌜ UnderReview (now file) o (now row) (now starts) (now list) ⌝ }
+    requires { λ r. ⌜ AllRead r (o .head .form) (now list) (now asked) (now wanted) ⌝ }
+    requires { λ _. ⌜ length (now steps) ≡ o .head .candidates ⌝ }
+    ensures { λ r x. ⌜ outcomeOf x ≡ said (entryFinding r (listOf (o .head .form) r (now (list .entry)))) ⌝ }
 {
-    for i in 0..h.candidates {
-        let above = entries_above(file, h, candidates, merits, list, i);
-        let k = best_entry(
-            file,
-            h,
-            candidates,
-            merits,
-            list,
-            asked,
-            wanted,
-            steps,
-            i,
-            above,
-        );
+    for i in 0..o.head.candidates {
+        let above = entries_above(file, o, row, starts, list, i);
+        let k = best_entry(file, o, row, starts, list, asked, wanted, steps, i, above);
         if k < above {
-            let entry = row_entry(file, candidates, i, k);
+            let entry = row_entry(file, o, row, starts, i, k);
             return Judgement::BetterEntry {
                 candidate: i + 1,
                 entry,

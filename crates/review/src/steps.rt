@@ -3,15 +3,15 @@ use offers::choosing::choose_all;
 use offers::list::institute_at;
 use offers::list::step_at;
 use round::form::Form;
-use round::head::Head;
+use round::opened::Opened;
 use round::word::wide;
 ghost use mathlib.Core.Path.{_≡_};
 ghost use Prim.Native.Nat.{_*_, _≤_, _<_};
 ghost use lib.ListN.{length, replicate};
 ghost use Rattle.round.specs.Form.{seatWidth};
 ghost use Rattle.round.specs.Lists.{first};
-ghost use Rattle.round.specs.Reading.{roundOf};
-ghost use Rattle.offers.specs.Held.{AtHand};
+ghost use Rattle.round.specs.Round.{Round};
+ghost use Rattle.round.specs.Opened.{AtHand, openedRound};
 ghost use Rattle.review.specs.Tables.{StepsGiven, wrongBy};
 
 // A mark for every institute.
@@ -24,28 +24,21 @@ fn every_institute() -> [u8; 1000]
 // Every institute chooses from the offers to it.
 pub fn give_steps(
     file: &[u8],
-    h: Head,
-    candidates: &[usize],
-    merits: &[usize],
+    o: Opened,
+    row: &[u8],
+    starts: &[u32],
     asked: &[u16],
     wanted: &[u8],
     steps: &mut [u8],
 )
-    requires { ⌜ AtHand (now file) h (now candidates) (now merits) ⌝ }
-    requires { ⌜ (length (now asked) ≡ h .candidates) × (length (now wanted) ≡ h .candidates) × (now steps ≡ replicate (h .candidates) 0) ⌝ }
-    ensures { λ _. ⌜ StepsGiven (roundOf (now (file .entry))) (now (asked .entry)) (now (wanted .entry)) (now (steps .exit)) ⌝ }
+    ghost { Round }
+    requires { λ r. ⌜ openedRound (now file) o (now row) ≡ r ⌝ }
+    requires { λ _. ⌜ AtHand (now file) o (now row) (now starts) ⌝ }
+    requires { λ _. ⌜ (length (now asked) ≡ o .head .candidates) × (length (now wanted) ≡ o .head .candidates) × (now steps ≡ replicate (o .head .candidates) 0) ⌝ }
+    ensures { λ r _. ⌜ StepsGiven r (now (asked .entry)) (now (wanted .entry)) (now (steps .exit)) ⌝ }
 {
     let mut every = every_institute();
-    choose_all(
-        file,
-        h,
-        candidates,
-        merits,
-        asked,
-        wanted,
-        &mut every,
-        steps,
-    );
+    choose_all(file, o, row, starts, asked, wanted, &mut every, steps);
 }
 
 // Whether candidate i's seat is wrong, by the offers and the steps given.

@@ -6,7 +6,7 @@ use mathlib.Core.Logic.{_⊎_, inl, inr, ⊎-elim}
 use mathlib.Core.List.{List, []}
 use native.Mathlib.Omega.{arith}
 use native.Mathlib.Nat.{div-add-mod'}
-use borrow.Author.Tests.{leb-true, eqb-true, eqb-false}
+use borrow.Author.Tests.{leb-true, eqb-true, eqb-false, le-leb, eq-eqb}
 use lib.Dec.{leb, eqb}
 use lib.ListN.{length, getD, drop, length-take, length-drop}
 use Rattle.round.specs.declared.form.Form.{Form}
@@ -15,8 +15,8 @@ use Rattle.round.specs.Form.{institutesMost, entryWidth}
 use Rattle.round.specs.Lists.{sumOf}
 use Rattle.round.specs.Records.{Head, headIn, kindAt, lengthAt, bodyAt, ownSteps, kindDue}
 use Rattle.round.specs.Steps.{stepWidth, stepCount, positionsIn, reservedIn, stepCode, receiverIn}
-use Rattle.round.specs.Questions.{within, instituteAllowed, lengthAllowed, firstNo, questionsAt, kindQuestions, headQuestions, listQuestions, instituteQuestions, candidateQuestions, meritQuestions, entryCount, instituteIn, codeIn, meritCount, meritIn}
-use Rattle.round.specs.Read.{asHead, InRange, InstituteBody, LawfulSteps, CandidateBody}
+use Rattle.round.specs.Questions.{within, instituteAllowed, lengthAllowed, firstNo, questionsAt, kindQuestions, headQuestions, listQuestions, instituteQuestions, rowQuestions, rowBytes, candidateQuestions, meritQuestions, entryCount, instituteIn, codeIn, meritCount, meritIn}
+use Rattle.round.specs.Read.{asHead, InRange, InstituteBody, LawfulSteps}
 use Rattle.round.proofs.Words.{and-fst, and-snd, and-no, or-cases, all-at, apart-at}
 use Rattle.round.proofs.Passed.{yes}
 
@@ -55,6 +55,18 @@ lead-yes file h kind start e =
       body-length = body-whole file start there;
       body-yes = d .1;
     }
+
+-- a record of which that holds has every question answered yes
+pub yes-lead : (file : List ℕ) (h : Head) (kind start : ℕ) → LeadYes file h kind start → firstNo (questionsAt file h kind start) ≡ 0
+unfolding questionsAt
+yes-lead file h kind start y =
+    rw (
+      le-leb (start + 4) (length file) (y .lead-there),
+      eq-eqb (kindAt file start) (kindDue h kind) (y .kind-due),
+      y .allowed,
+      le-leb (start + 4 + lengthAt file start) (length file) (y .body-there),
+    )
+    (y .body-yes)
 
 -- 5
 pub head-yes : (form : Form) (body : List ℕ) → firstNo (headQuestions form body) ≡ 0 → InRange (headIn form body)
@@ -108,35 +120,44 @@ institute-yes h body e =
       listed = λ own. list-yes h body (sym (ap (λ (own : Bool). firstNo (cond own (listQuestions h body) [])) own) ∙ b .1);
     }
 
--- 8 to 10
-pub record CandidateYes (form : Form) (institutes types : ℕ) (body : List ℕ) : Type 0 where
-  pub own-code : getD body 0 0 ≤ 4
-  pub marks-held : getD body 1 0 < 2 ^ types
-  pub entry-from : (k : ℕ) → k < entryCount form body → 1 ≤ instituteIn form body k
-  pub entry-to : (k : ℕ) → k < entryCount form body → instituteIn form body k ≤ institutes
-  pub entry-own : (k : ℕ) → k < entryCount form body → (codeIn form body k ≡ 0) ⊎ (codeIn form body k ≡ getD body 0 0)
-  pub entries-differ : (k l : ℕ) → k < l → l < entryCount form body → instituteIn form body k ≡ instituteIn form body l → codeIn form body k ≡ codeIn form body l → ⊥
+-- 9 and 10
+pub record RowYes (form : Form) (institutes own : ℕ) (row : List ℕ) : Type 0 where
+  pub entry-from : (k : ℕ) → k < entryCount form row → 1 ≤ instituteIn form row k
+  pub entry-to : (k : ℕ) → k < entryCount form row → instituteIn form row k ≤ institutes
+  pub entry-own : (k : ℕ) → k < entryCount form row → (codeIn form row k ≡ 0) ⊎ (codeIn form row k ≡ own)
+  pub entries-differ : (k l : ℕ) → k < l → l < entryCount form row → instituteIn form row k ≡ instituteIn form row l → codeIn form row k ≡ codeIn form row l → ⊥
 
-pub candidate-yes : (h : Head) (body : List ℕ) → firstNo (candidateQuestions h body) ≡ 0 → CandidateYes (h .form) (h .institutes) (h .types) body
-candidate-yes h body e =
-    let own : ℕ = getD body 0 0 in
-    let entries : ℕ = entryCount (h .form) body in
-    let institute : ℕ → ℕ = instituteIn (h .form) body in
-    let code : ℕ → ℕ = codeIn (h .form) body in
-    let lawful : ℕ → Bool = λ k. within 1 (h .institutes) (institute k) && (eqb (code k) 0 || eqb (code k) own) in
+pub row-yes : (form : Form) (institutes own : ℕ) (row : List ℕ) → firstNo (rowQuestions form institutes own row) ≡ 0 → RowYes form institutes own row
+row-yes form institutes own row e =
+    let entries : ℕ = entryCount form row in
+    let institute : ℕ → ℕ = instituteIn form row in
+    let code : ℕ → ℕ = codeIn form row in
+    let lawful : ℕ → Bool = λ k. within 1 institutes (institute k) && (eqb (code k) 0 || eqb (code k) own) in
     let same : ℕ → ℕ → Bool = λ k l. eqb (institute k) (institute l) && eqb (code k) (code l) in
-    let a = yes 7 _ _ e in
-    let b = yes 8 _ _ (a .1) in
+    let b = yes 8 _ _ e in
     let c = yes 9 _ _ (b .1) in
     let each : (k : ℕ) → k < entries → lawful k ≡ true = all-at entries lawful (b .0) in
     record {
-      own-code = leb-true _ _ (and-fst _ _ (a .0));
-      marks-held = leb-true _ _ (and-snd (leb own 4) _ (a .0));
-      entry-from = λ k l. within-from 1 (h .institutes) (institute k) (and-fst _ _ (each k l));
-      entry-to = λ k l. within-to 1 (h .institutes) (institute k) (and-fst _ _ (each k l));
-      entry-own = λ k l. ⊎-elim (λ e. inl (eqb-true _ _ e)) (λ e. inr (eqb-true _ _ e)) (or-cases (eqb (code k) 0) _ (and-snd (within 1 (h .institutes) (institute k)) _ (each k l)));
+      entry-from = λ k l. within-from 1 institutes (institute k) (and-fst _ _ (each k l));
+      entry-to = λ k l. within-to 1 institutes (institute k) (and-fst _ _ (each k l));
+      entry-own = λ k l. ⊎-elim (λ e. inl (eqb-true _ _ e)) (λ e. inr (eqb-true _ _ e)) (or-cases (eqb (code k) 0) _ (and-snd (within 1 institutes (institute k)) _ (each k l)));
       entries-differ = λ k l kl ll i j.
-          eqb-false (code k) (code l) (and-no (eqb (institute k) (institute l)) _ (apart-at entries same (c .0) k l kl ll) (borrow.Author.Tests.eq-eqb _ _ i)) j;
+          eqb-false (code k) (code l) (and-no (eqb (institute k) (institute l)) _ (apart-at entries same (c .0) k l kl ll) (eq-eqb _ _ i)) j;
+    }
+
+-- 8, and those of the row
+pub record CandidateYes (form : Form) (institutes types : ℕ) (body : List ℕ) : Type 0 where
+  pub own-code : getD body 0 0 ≤ 4
+  pub marks-held : getD body 1 0 < 2 ^ types
+  pub row-lawful : RowYes form institutes (getD body 0 0) (rowBytes body)
+
+pub candidate-yes : (h : Head) (body : List ℕ) → firstNo (candidateQuestions h body) ≡ 0 → CandidateYes (h .form) (h .institutes) (h .types) body
+candidate-yes h body e =
+    let a = yes 7 _ _ e in
+    record {
+      own-code = leb-true _ _ (and-fst _ _ (a .0));
+      marks-held = leb-true _ _ (and-snd (leb (getD body 0 0) 4) _ (a .0));
+      row-lawful = row-yes (h .form) (h .institutes) (getD body 0 0) (rowBytes body) (a .1);
     }
 
 -- 11 and 12
@@ -211,10 +232,8 @@ institute-body h body l e =
 pub institute-long : (k : CodeHead) (kind : ℕ) (body : List ℕ) → InRange (asHead k) → kind ≡ 2 → lengthAllowed (asHead k) kind (length body) ≡ true → InstituteBody (asHead k) body
 institute-long k kind body y e a = institute-body (asHead k) body (y .types-most) (rw e at a)
 
-pub candidate-long : (k : CodeHead) (kind : ℕ) (body : List ℕ) → kind ≡ 3 → lengthAllowed (asHead k) kind (length body) ≡ true → CandidateBody (k .form) body
-candidate-long k kind body e a =
-    let fits = length-candidate (asHead k) (length body) (rw e at a) in
-    record { least = fits .least; most = fits .most }
+pub candidate-long : (k : CodeHead) (kind : ℕ) (body : List ℕ) → kind ≡ 3 → lengthAllowed (asHead k) kind (length body) ≡ true → 2 ≤ length body
+candidate-long k kind body e a = length-candidate (asHead k) (length body) (rw e at a) .least
 
 -- the steps of an institute of which 17 and 18, where they are asked, are answered yes
 pub steps-lawful : (h : Head) (body : List ℕ) → InstituteBody h body → (ownSteps h ≡ true → ListYes h body) → LawfulSteps h body

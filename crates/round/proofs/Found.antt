@@ -78,12 +78,6 @@ first-more (q ∷ qs) rs n = go (q .answer) (first-more qs rs) n
     go true ih n = ih n
     go false ih n = refl
 
--- the part of a file behind the lead bytes, as long as code has read them to say
-pub body-part : (file : List ℕ) (start : ℕ) {len : ℕ} → len ≡ lengthAt file start → take (start + 4 + len - (start + 4)) (drop (start + 4) file) ≡ bodyAt file start
-body-part file start {len} e =
-    let same : start + 4 + len - (start + 4) ≡ lengthAt file start = omega arith in
-    ap (λ (n : ℕ). take n (drop (start + 4) file)) same
-
 -- questions 1 to 4 answered yes
 four-yes : (a b c d : Bool) (rest : ℕ) → cond a (cond b (cond c (cond d rest 4) 3) 2) 1 ≡ 0 → (a ≡ true) × (b ≡ true) × (c ≡ true) × (d ≡ true)
 four-yes a b c d rest e =

@@ -5,14 +5,17 @@ pub mod Forms
 pub mod Passed
 pub mod Answers
 pub mod Sound
+pub mod Changed
 pub mod Seen
 pub mod Found
 pub mod Run
 pub mod Rest
 pub mod Prefix
 pub mod Bodies
+pub mod Calls
 pub mod Rows
 pub mod Behind
 pub mod Listed
 pub mod Bytes
 pub mod Rewritten
+pub mod Replaced

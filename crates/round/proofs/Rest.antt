@@ -4,24 +4,24 @@ use mathlib.Core.Path.{_≡_, refl, sym, ap, ap₂, _∙_}
 use mathlib.Core.Bool.{Bool, true, false, cond}
 use mathlib.Core.List.{List, [], _++_}
 use native.Mathlib.Omega.{arith}
+use native.Mathlib.Nat.{zero-add}
 use borrow.Author.Tests.{eq-eqb, ne-eqb}
 use lib.Dec.{eqb}
-use lib.ListN.{length, getD, take, drop, replicate, length-take, length-drop, drop-of-length-le}
-use lib.Seq.{getD-drop, getD-append-add, take-all}
+use lib.ListN.{length, take, drop, replicate}
 use Rattle.round.specs.declared.records.Part.{Part}
 use Rattle.round.specs.declared.records.Part.the-variants.{Lawful, Refused as PartRefused}
 use Rattle.round.specs.declared.form.Form.{Form}
 use Rattle.round.specs.declared.head.Head.{Head as CodeHead}
 use Rattle.round.specs.declared.reader.Reading.{Reading}
 use Rattle.round.specs.declared.reader.Reading.the-variants.{Read, Refused}
-use Rattle.round.specs.Form.{institutesMost}
 use Rattle.round.specs.Records.{Head, formOf, headIn, headOf, dueAfter, lengthAt, bodyAt, nextAt, startOf}
 use Rattle.round.specs.Questions.{firstNo, questionsAt}
 use Rattle.round.specs.Refusal.{Verdict, passes, refused, verdictFrom, verdict}
 use Rattle.round.specs.Read.{asHead, InRange}
-use Rattle.round.specs.Parts.{partBy, onward, RunPart, RunRead}
+use Rattle.round.specs.Parts.{partBy, onward, RunPart, StartsTo, RunRead}
 use Rattle.round.specs.Outcome.{verdictOf, refusalOf, RestRead, RoundRead}
 use Rattle.round.proofs.Words.{append-none}
+use Rattle.round.proofs.Forms.{institutes-few}
 use Rattle.round.proofs.Answers as answers
 use Rattle.round.proofs.Found.{part-lawful}
 
@@ -29,29 +29,18 @@ use Rattle.round.proofs.Found.{part-lawful}
 not-read : {A : Type 0} {r : Reading} {n o : ℕ} (k : CodeHead) → r ≡ Refused n o → r ≡ Read k → A
 not-read {A} {r} {n} {o} k e d = let z : _≡_ {A = ℕ} 0 1 = cc in absurd (omega arith)
 
--- a table from place m on, as long as it is, and the table with other places there
-abbrev behind : ℕ → List ℕ → List ℕ
-behind m table = take (length table - m) (drop m table)
-
-abbrev putBehind : ℕ → List ℕ → List ℕ → List ℕ
-putBehind m table s = take m table ++ (s ++ drop (length table - m) (drop m table))
-
-behind-at : (m : ℕ) (table : List ℕ) (i : ℕ) → m ≤ i → getD (behind m table) (i - m) 0 ≡ getD table i 0
-behind-at m table i l =
-    let e : m + (i - m) ≡ i = omega arith in
-    ap (λ (s : List ℕ). getD s (i - m) 0) (take-all (length table - m) (drop m table) (omega (arith, length-drop m table)))
-    ∙ (getD-drop m table (i - m) 0 ∙ ap (λ (n : ℕ). getD table n 0) e)
-
-put-at : (m : ℕ) (table s : List ℕ) (n : ℕ) → m ≤ length table → getD (putBehind m table s) (m + n) 0 ≡ getD s n 0
-put-at m table s n l =
-    let front : length (take m table) ≡ m = omega (arith, length-take m table) in
-    ap (λ (i : ℕ). getD (putBehind m table s) (i + n) 0) (sym front)
-    ∙ (getD-append-add (take m table) _ n 0
-    ∙ ap (λ (t : List ℕ). getD t n 0) (ap (λ (t : List ℕ). s ++ t) (drop-of-length-le (drop m table) {i = length table - m} (omega (arith, length-drop m table))) ∙ append-none s))
-
 -- a lawful part ends within the file
 pub part-inside : {file : List ℕ} {h : Head} {kind count from end : ℕ} {r : Part} → RunPart file h kind count from r → r ≡ Lawful end → end ≤ length file
 part-inside R e = R .inside _ e
+
+-- and no further than its records may be long
+pub part-low : {file : List ℕ} {h : Head} {kind first count from end : ℕ} {before starts : List ℕ} {r : Part} → RunRead file h kind first count from before r starts
+    → r ≡ Lawful end → end ≤ 1028 * (1 + (first + count))
+part-low R e = R .low _ e
+
+-- the table has a place for each record
+pub records-few : (k : CodeHead) → InRange (asHead k) → k .institutes + (k .candidates + k .institutes) ≤ 2512
+records-few k y = omega (arith, y .candidates-most, y .institutes-most, institutes-few (k .form))
 
 module _ (file : List ℕ) (k : CodeHead) (from : ℕ) where
   lists : List ℕ
@@ -68,43 +57,35 @@ module _ (file : List ℕ) (k : CodeHead) (from : ℕ) where
   after-part : {got : Part} {end : ℕ} (kinds : List ℕ) (v : Verdict) → got ≡ Lawful end → onward got (verdictFrom file (asHead k) kinds) ≡ v → verdictFrom file (asHead k) kinds end ≡ v
   after-part kinds v e d = ap (λ (p : Part). onward p (verdictFrom file (asHead k) kinds)) (sym e) ∙ d
 
-  rest-refused : {r : Reading} {n o : ℕ} (c₀ c m₀ m : List ℕ) → r ≡ Refused n o → refused n o ≡ verdictFrom file (asHead k) (dueAfter (asHead k)) from
-      → RestRead file (asHead k) from r c₀ c m₀ m
-  rest-refused {r} c₀ c m₀ m e d = record {
-    answer = ap verdictOf e ∙ d;
-    head = λ j q. not-read j e q;
-    candidate-starts = λ j q. not-read j e q;
-    merit-starts = λ j q. not-read j e q;
-    institute-starts = λ j q. not-read j e q;
-    candidates-kept = λ j i q. not-read j e q;
-    merits-kept = λ j i q. not-read j e q;
-  }
+  rest-refused : {r : Reading} {n o : ℕ} (s : List ℕ) → r ≡ Refused n o → refused n o ≡ verdictFrom file (asHead k) (dueAfter (asHead k)) from
+      → RestRead file (asHead k) from r s
+  rest-refused {r} s e d = record { answer = ap verdictOf e ∙ d; head = λ j q. not-read j e q; table = λ j q. not-read j e q }
 
   up : {r : Reading} {got : Part} {n o : ℕ} → r ≡ refusalOf got → got ≡ PartRefused n o → r ≡ Refused n o
   up e d = e ∙ ap refusalOf d
 
-  module _ {r₁ : Part} (m₀ : List ℕ) {s : List ℕ} (R₁ : RunRead file (asHead k) 2 (k .institutes) from (behind (k .institutes) m₀) r₁ s) where
-    pub institutes-refused : {r : Reading} {n o : ℕ} (c₀ c m : List ℕ) → r ≡ refusalOf r₁ → r₁ ≡ PartRefused n o → RestRead file (asHead k) from r c₀ c m₀ m
+  module _ {r₁ : Part} {s₀ s₁ : List ℕ} (R₁ : RunRead file (asHead k) 2 0 (k .institutes) from s₀ r₁ s₁) where
+    pub institutes-refused : {r : Reading} {n o : ℕ} (s : List ℕ) → r ≡ refusalOf r₁ → r₁ ≡ PartRefused n o → RestRead file (asHead k) from r s
     unfolding rows lists
-    institutes-refused c₀ c m e d = rest-refused c₀ c m₀ m (up e d) (handed-part rows _ d (R₁ .part .verdict-of rows))
+    institutes-refused s e d = rest-refused s (up e d) (handed-part rows _ d (R₁ .part .verdict-of rows))
 
-    module _ {e₁ : ℕ} (l₁ : r₁ ≡ Lawful e₁) {r₂ : Part} {c₀ c : List ℕ} (R₂ : RunRead file (asHead k) 3 (k .candidates) e₁ c₀ r₂ c) where
+    module _ {e₁ : ℕ} (l₁ : r₁ ≡ Lawful e₁) {r₂ : Part} {s₂ : List ℕ} (R₂ : RunRead file (asHead k) 3 (k .institutes) (k .candidates) e₁ s₁ r₂ s₂) where
       rows-verdict : onward r₂ (verdictFrom file (asHead k) lists) ≡ verdictFrom file (asHead k) (dueAfter (asHead k)) from
       unfolding rows lists
       rows-verdict = R₂ .part .verdict-of lists ∙ after-part rows _ l₁ (R₁ .part .verdict-of rows)
 
-      pub rows-refused : {r : Reading} {n o : ℕ} (m : List ℕ) → r ≡ refusalOf r₂ → r₂ ≡ PartRefused n o → RestRead file (asHead k) from r c₀ c m₀ m
-      rows-refused m e d = rest-refused c₀ c m₀ m (up e d) (handed-part lists _ d rows-verdict)
+      pub rows-refused : {r : Reading} {n o : ℕ} (s : List ℕ) → r ≡ refusalOf r₂ → r₂ ≡ PartRefused n o → RestRead file (asHead k) from r s
+      rows-refused s e d = rest-refused s (up e d) (handed-part lists _ d rows-verdict)
 
-      module _ {e₂ : ℕ} (l₂ : r₂ ≡ Lawful e₂) {r₃ : Part} {m : List ℕ} (R₃ : RunRead file (asHead k) 4 (k .institutes) e₂ (putBehind (k .institutes) m₀ s) r₃ m) where
+      module _ {e₂ : ℕ} (l₂ : r₂ ≡ Lawful e₂) {r₃ : Part} {s₃ : List ℕ} (R₃ : RunRead file (asHead k) 4 (k .institutes + k .candidates) (k .institutes) e₂ s₂ r₃ s₃) where
         lists-verdict : onward r₃ (verdictFrom file (asHead k) []) ≡ verdictFrom file (asHead k) (dueAfter (asHead k)) from
         unfolding lists
         lists-verdict =
             R₃ .part .verdict-of []
             ∙ (ap (λ (s : List ℕ). verdictFrom file (asHead k) s e₂) (append-none lists) ∙ after-part lists _ l₂ rows-verdict)
 
-        pub lists-refused : {r : Reading} {n o : ℕ} → r ≡ refusalOf r₃ → r₃ ≡ PartRefused n o → RestRead file (asHead k) from r c₀ c m₀ m
-        lists-refused e d = rest-refused c₀ c m₀ m (up e d) (handed-part [] _ d lists-verdict)
+        pub lists-refused : {r : Reading} {n o : ℕ} (s : List ℕ) → r ≡ refusalOf r₃ → r₃ ≡ PartRefused n o → RestRead file (asHead k) from r s
+        lists-refused s e d = rest-refused s (up e d) (handed-part [] _ d lists-verdict)
 
         module _ {e₃ : ℕ} (l₃ : r₃ ≡ Lawful e₃) where
           end-verdict : cond (eqb e₃ (length file)) passes (refused 13 e₃) ≡ verdictFrom file (asHead k) (dueAfter (asHead k)) from
@@ -112,47 +93,32 @@ module _ (file : List ℕ) (k : CodeHead) (from : ℕ) where
           end-verdict = after-part [] _ l₃ lists-verdict
 
           -- 13
-          pub more-refused : (e₃ ≡ length file → ⊥) → RestRead file (asHead k) from (Refused 13 e₃) c₀ c m₀ m
-          more-refused d = rest-refused c₀ c m₀ m refl (rw (ne-eqb e₃ (length file) d) at end-verdict)
+          pub more-refused : (s : List ℕ) → (e₃ ≡ length file → ⊥) → RestRead file (asHead k) from (Refused 13 e₃) s
+          more-refused s d = rest-refused s refl (rw (ne-eqb e₃ (length file) d) at end-verdict)
 
-          pub rest-read : InRange (asHead k) → 512 ≤ length c₀ → 2 * institutesMost (k .form) ≤ length m₀ → length c ≡ length c₀ → length m ≡ length m₀ → e₃ ≡ length file
-              → RestRead file (asHead k) from (Read k) c₀ c m₀ m
-          rest-read y many more kept kept′ d = record {
+          pub rest-read : e₃ ≡ length file → RestRead file (asHead k) from (Read k) s₃
+          rest-read d = record {
             answer = rw (eq-eqb e₃ (length file) d) at end-verdict;
             head = λ j q. let s : j ≡ k = cc in ap asHead s;
-            candidate-starts = λ j q s. record {
-              room = omega (arith, y .candidates-most);
-              starts-at = λ i l.
-                  R₂ .starts-at (1 + k .institutes) e₂ i (R₁ .part .ends 1 e₁ s l₁) l₂ l
-                  ∙ ap (startOf file) (assoc (k .institutes) i);
-            };
-            merit-starts = λ j q s. record {
-              room = omega (arith, y .institutes-most);
-              starts-at = λ i l.
-                  R₃ .starts-at (1 + k .institutes + k .candidates) e₃ i (R₂ .part .ends (1 + k .institutes) e₂ (R₁ .part .ends 1 e₁ s l₁) l₂) l₃ l
-                  ∙ ap (startOf file) (assoc₃ (k .institutes) (k .candidates) i);
-            };
-            institute-starts = λ j q d. record {
-              room = omega (arith, y .institutes-most, length-drop (k .institutes) m);
-              starts-at = λ i l.
-                  getD-drop (k .institutes) m i 0
-                  ∙ (R₃ .starts-kept (k .institutes + i) (omega arith)
-                  ∙ (put-at (k .institutes) m₀ s i (omega (arith, y .institutes-most)) ∙ R₁ .starts-at 1 e₁ i d l₁ l));
-            };
-            candidates-kept = λ j i q l. R₂ .starts-kept i l;
-            merits-kept = λ j i q l.
-                let e : k .institutes + (i - k .institutes) ≡ i = omega arith in
-                R₃ .starts-kept i (omega arith)
-                ∙ (ap (λ (n : ℕ). getD (putBehind (k .institutes) m₀ s) n 0) (sym e)
-                ∙ (put-at (k .institutes) m₀ s (i - k .institutes) (omega (arith, y .institutes-most))
-                ∙ (R₁ .starts-kept (i - k .institutes) (omega arith) ∙ behind-at (k .institutes) m₀ i (omega arith))));
+            table = λ j q s.
+                let first : StartsTo file (k .institutes) s₁ = rw zero-add at (R₁ .told e₁ l₁ s none-told) in
+                rw assoc at (lists-told (rows-told first (R₁ .part .ends 1 e₁ s l₁)) (R₁ .part .ends 1 e₁ s l₁));
           }
             where
-              assoc : (a b : ℕ) → 1 + a + b ≡ 1 + (a + b)
-              assoc a b = omega arith
+              assoc : k .institutes + k .candidates + k .institutes ≡ k .institutes + (k .candidates + k .institutes)
+              assoc = omega arith
 
-              assoc₃ : (a b c : ℕ) → 1 + a + b + c ≡ 1 + (a + (b + c))
-              assoc₃ a b c = omega arith
+              both : (a b : ℕ) → 1 + a + b ≡ 1 + (a + b)
+              both a b = omega arith
+
+              none-told : StartsTo file 0 s₀
+              none-told = record { room = omega arith; starts-at = λ i l. absurd (omega arith) }
+
+              rows-told : StartsTo file (k .institutes) s₁ → e₁ ≡ startOf file (1 + k .institutes) → StartsTo file (k .institutes + k .candidates) s₂
+              rows-told t e = R₂ .told e₂ l₂ e t
+
+              lists-told : StartsTo file (k .institutes + k .candidates) s₂ → e₁ ≡ startOf file (1 + k .institutes) → StartsTo file (k .institutes + k .candidates + k .institutes) s₃
+              lists-told t e = R₃ .told e₃ l₃ (R₂ .part .ends (1 + k .institutes) e₂ e l₂ ∙ ap (startOf file) (both (k .institutes) (k .candidates))) t
 
 -- the questions of the head need no more of a head than the form of the file
 pub head-questions : (file : List ℕ) (h : Head) → h .form ≡ formOf file → questionsAt file h 1 0 ≡ questionsAt file (headOf file) 1 0
@@ -173,17 +139,13 @@ module _ (file : List ℕ) {r₀ : Part} (h₀ : Head) {form : Form} (f : form �
       go true = refl
       go false = refl
 
-  pub round-refused : {r : Reading} {n o : ℕ} (c₀ c m₀ m : List ℕ) → r ≡ refusalOf r₀ → r₀ ≡ PartRefused n o → RoundRead file r c₀ c m₀ m
-  round-refused {r} {n} {o} c₀ c m₀ m e d =
+  pub round-refused : {r : Reading} {n o : ℕ} (s : List ℕ) → r ≡ refusalOf r₀ → r₀ ≡ PartRefused n o → RoundRead file r s
+  round-refused {r} {n} {o} s e d =
       let up : r ≡ Refused n o = e ∙ ap refusalOf d in
       record {
         answer = ap verdictOf up ∙ (ap (λ (p : Part). onward p (verdictFrom file (headOf file) (dueAfter (headOf file)))) (sym d) ∙ head-verdict);
         head = λ j q. not-read j up q;
-        candidate-starts = λ j q. not-read j up q;
-        merit-starts = λ j q. not-read j up q;
-        institute-starts = λ j q. not-read j up q;
-        candidates-kept = λ j i q. not-read j up q;
-        merits-kept = λ j i q. not-read j up q;
+        table = λ j q. not-read j up q;
       }
 
   module _ {end : ℕ} (l : r₀ ≡ Lawful end) where
@@ -201,6 +163,9 @@ module _ (file : List ℕ) {r₀ : Part} (h₀ : Head) {form : Form} (f : form �
 
     pub head-behind : 4 ≤ end
     head-behind = omega (arith, head-end)
+
+    pub head-low : end ≤ 12
+    head-low = omega (arith, head-end)
 
     pub head-inside : end ≤ length file
     head-inside = omega (arith, head-zero .1, lead .body-there)
@@ -220,19 +185,12 @@ module _ (file : List ℕ) {r₀ : Part} (h₀ : Head) {form : Form} (f : form �
       pub head-range : InRange (asHead k)
       head-range = rw same-head (answers.head-yes (formOf file) (bodyAt file 0) (lead .body-yes))
 
-      pub head-places : {n : ℕ} → 2 * institutesMost (formOf file) ≤ n → 2 * institutesMost (k .form) ≤ n
-      head-places l = rw (ap (λ (h : Head). h .form) same-head) l
-
-      pub round-read : {r : Reading} {c₀ c m₀ m : List ℕ} → RestRead file (asHead k) end r c₀ c m₀ m → RoundRead file r c₀ c m₀ m
+      pub round-read : {r : Reading} {s : List ℕ} → RestRead file (asHead k) end r s → RoundRead file r s
       unfolding startOf
-      round-read {r} {c₀} {c} {m₀} {m} R′ =
-          let R : RestRead file (headOf file) end r c₀ c m₀ m = rw same-head at R′ in
+      round-read {r} {s} R′ =
+          let R : RestRead file (headOf file) end r s = rw same-head at R′ in
           record {
             answer = R .answer ∙ (ap (λ (p : Part). onward p (verdictFrom file (headOf file) (dueAfter (headOf file)))) (sym l) ∙ head-verdict);
             head = R .head;
-            candidate-starts = λ j q. R .candidate-starts j q (sym (head-zero .1));
-            merit-starts = λ j q. R .merit-starts j q (sym (head-zero .1));
-            institute-starts = λ j q. R .institute-starts j q (sym (head-zero .1));
-            candidates-kept = R .candidates-kept;
-            merits-kept = R .merits-kept;
+            table = λ j q. R .table j q (sym (head-zero .1));
           }

@@ -7,7 +7,7 @@ use mathlib.Core.List.{List, [], _∷_, _++_}
 use native.Mathlib.Omega.{arith}
 use native.Mathlib.Decide.{decLt}
 use lib.Dec.{eqb}
-use lib.ListN.{length, getD, replicate, length-append, length-replicate, List·getD-append}
+use lib.ListN.{length, getD, replicate, length-append, length-replicate, length-drop, List·getD-append}
 use lib.Seq.{getD-append-add}
 use borrow.Author.Tests.{eqb-true, ne-eqb}
 use Rattle.round.specs.declared.entry.Category.the-variants.{Open}
@@ -18,13 +18,13 @@ use Rattle.round.specs.Form.{entryWidth}
 use Rattle.round.specs.Lists.{tabulate, bit, sum, sumOf}
 use Rattle.round.specs.Records.{Head, formOf, headOf, lengthAt, bodyAt, bodyOf, startOf, ownSteps, instituteRecord, candidateRecord, meritRecord}
 use Rattle.round.specs.Steps.{stepCount, positionsIn, reservedIn, stepCode}
-use Rattle.round.specs.Questions.{entryCount, instituteIn, codeIn, meritCount, meritIn}
+use Rattle.round.specs.Questions.{entryCount, instituteIn, codeIn, rowBytes, meritCount, meritIn}
 use Rattle.round.specs.Refusal.{passes, verdict}
 use Rattle.round.specs.Round.{StepRule}
-use Rattle.round.specs.Reading.{stepIn, dereserved, stepsIn, entryIn, candidateIn, instituteFrom, roundOf}
-use Rattle.round.specs.Places.{candidateAt, instituteAt, entryAt, stepNumbers, meritAt, noEntry, noCandidate, noInstitute, noStep}
+use Rattle.round.specs.Reading.{stepIn, dereserved, stepsIn, entryIn, rowIn, candidateIn, instituteFrom, roundOf}
+use Rattle.round.specs.Places.{candidateAt, instituteAt, stepNumbers, meritAt, noEntry, noCandidate, noInstitute, noStep}
 use Rattle.round.specs.Read.{InRange, InstituteBody}
-use Rattle.round.specs.Sound.{SoundCandidate, SoundInstitute, Sound}
+use Rattle.round.specs.Sound.{SoundRow, SoundCandidate, SoundInstitute, Sound}
 use Rattle.round.proofs.Steps.{five-steps, code-no}
 use Rattle.round.proofs.Words.{length-tabulate, tabulate-at, sum-tabulate}
 use Rattle.round.proofs.Forms.{institutes-few, entries-few}
@@ -47,6 +47,11 @@ no-code code l = rw (ne-eqb code 1 (λ e. omega arith), ne-eqb code 2 (λ e. ome
 bit-few : (b : Bool) → bit b ≤ 1
 bit-few true = omega arith
 bit-few false = omega arith
+
+-- as many entries as the bytes of a row have
+pub row-length : (form : Form) (row : List ℕ) → length (rowIn form row) ≡ entryCount form row
+unfolding rowIn
+row-length form row = length-tabulate 0 (entryCount form row) (entryIn form row)
 
 -- the steps in a body, and behind them a sixth or none
 module _ (h : Head) (body : List ℕ) where
@@ -115,47 +120,51 @@ module _ (h : Head) (body : List ℕ) where
         ∙ no-code s (omega arith)
   ]
 
--- a candidate's body
-module _ (form : Form) (institutes types : ℕ) (body : List ℕ) (y : Answers.CandidateYes form institutes types body) (short : length body ≤ 2 + 16 * entryWidth form) where
-  row-length : length (candidateIn form body .row) ≡ entryCount form body
-  unfolding candidateIn
-  row-length = length-tabulate 0 (entryCount form body) (entryIn form body)
+-- the bytes of a row, by the candidate's own code
+module _ (form : Form) (institutes own : ℕ) (row : List ℕ) (y : Answers.RowYes form institutes own row) (known : own ≤ 4) where
+  entry-at : (k : ℕ) → k < entryCount form row → getD (rowIn form row) k noEntry ≡ entryIn form row k
+  unfolding rowIn
+  entry-at k l = tabulate-at (entryCount form row) (entryIn form row) noEntry k l
 
-  entry-at : (k : ℕ) → k < entryCount form body → entryAt (candidateIn form body) k ≡ entryIn form body k
-  unfolding candidateIn
-  entry-at k l = tabulate-at (entryCount form body) (entryIn form body) noEntry k l
+  code-small : (k : ℕ) → k < entryCount form row → codeIn form row k ≤ 4
+  code-small k l = ⊎-elim (λ (e : codeIn form row k ≡ 0). omega arith) (λ (e : codeIn form row k ≡ own). omega arith) (y .entry-own k l)
 
-  code-small : (k : ℕ) → k < entryCount form body → codeIn form body k ≤ 4
-  code-small k l = ⊎-elim (λ (e : codeIn form body k ≡ 0). omega arith) (λ (e : codeIn form body k ≡ getD body 0 0). omega (arith, y .own-code)) (y .entry-own k l)
-
-  same-entry : (k l : ℕ) → k < entryCount form body → l < entryCount form body → entryIn form body k ≡ entryIn form body l → (instituteIn form body k ≡ instituteIn form body l) × (codeIn form body k ≡ codeIn form body l)
+  same-entry : (k l : ℕ) → k < entryCount form row → l < entryCount form row → entryIn form row k ≡ entryIn form row l → (instituteIn form row k ≡ instituteIn form row l) × (codeIn form row k ≡ codeIn form row l)
   unfolding entryIn
   same-entry k l kl ll e = (
     ap (λ (x : Entry). x .institute) e,
-    sym (code-category (codeIn form body k) (code-small k kl)) ∙ (ap (λ (x : Entry). codeOf (x .category)) e ∙ code-category (codeIn form body l) (code-small l ll)),
+    sym (code-category (codeIn form row k) (code-small k kl)) ∙ (ap (λ (x : Entry). codeOf (x .category)) e ∙ code-category (codeIn form row l) (code-small l ll)),
   )
 
-  differ : (k l : ℕ) → k < entryCount form body → l < entryCount form body → entryIn form body k ≡ entryIn form body l → k ≡ l
+  differ : (k l : ℕ) → k < entryCount form row → l < entryCount form row → entryIn form row k ≡ entryIn form row l → k ≡ l
   differ k l kl ll e =
       let s = same-entry k l kl ll e in
       let no-less : ¬ (k < l) = λ m. y .entries-differ k l m ll (s .0) (s .1) in
       let no-more : ¬ (l < k) = λ m. y .entries-differ l k m kl (sym (s .0)) (sym (s .1)) in
       omega arith
 
+  pub sound-row : length row ≤ 16 * entryWidth form → SoundRow institutes (categoryOf own) (rowIn form row)
+  unfolding entryIn
+  sound-row short = record {
+    row-short = omega (arith, row-length form row, entries-few form row short);
+    entry-from = λ k l. let m : k < entryCount form row = omega (arith, row-length form row) in rw (entry-at k m) (y .entry-from k m);
+    entry-to = λ k l. let m : k < entryCount form row = omega (arith, row-length form row) in rw (entry-at k m) (y .entry-to k m);
+    entry-own = λ k l.
+        let m : k < entryCount form row = omega (arith, row-length form row) in
+        rw (entry-at k m) (⊎-elim (λ (e : codeIn form row k ≡ 0). inl (ap categoryOf e)) (λ (e : codeIn form row k ≡ own). inr (ap categoryOf e)) (y .entry-own k m));
+    entries-differ = λ k l kl ll e.
+        let m : k < entryCount form row = omega (arith, row-length form row) in
+        let n : l < entryCount form row = omega (arith, row-length form row) in
+        differ k l m n (sym (entry-at k m) ∙ (e ∙ entry-at l n));
+  }
+
+-- a candidate's body
+module _ (form : Form) (institutes types : ℕ) (body : List ℕ) (y : Answers.CandidateYes form institutes types body) (short : length body ≤ 2 + 16 * entryWidth form) where
   sound-candidate : SoundCandidate institutes types (candidateIn form body)
-  unfolding candidateIn entryIn
+  unfolding candidateIn
   sound-candidate = record {
     marks-held = y .marks-held;
-    row-short = omega (arith, row-length, entries-few form body short);
-    entry-from = λ k l. let m : k < entryCount form body = omega (arith, row-length) in rw (entry-at k m) (y .entry-from k m);
-    entry-to = λ k l. let m : k < entryCount form body = omega (arith, row-length) in rw (entry-at k m) (y .entry-to k m);
-    entry-own = λ k l.
-        let m : k < entryCount form body = omega (arith, row-length) in
-        rw (entry-at k m) (⊎-elim (λ (e : codeIn form body k ≡ 0). inl (ap categoryOf e)) (λ (e : codeIn form body k ≡ getD body 0 0). inr (ap categoryOf e)) (y .entry-own k m));
-    entries-differ = λ k l kl ll e.
-        let m : k < entryCount form body = omega (arith, row-length) in
-        let n : l < entryCount form body = omega (arith, row-length) in
-        differ k l m n (sym (entry-at k m) ∙ (e ∙ entry-at l n));
+    row-sound = sound-row form institutes (getD body 0 0) (rowBytes body) (y .row-lawful) (y .own-code) (omega (arith, length-drop 2 body));
   }
 
 -- an institute's body and that of its merit list

@@ -1,5 +1,5 @@
 -- Laws of the words of specs/Lists.antt, and of tests.
-use Prim.Native.Nat.{ℕ, zero, suc, _+_, _*_, _%_, _^_, _<_, _≤_}
+use Prim.Native.Nat.{ℕ, zero, suc, _+_, _*_, _-_, _%_, _^_, _<_, _≤_}
 use mathlib.Core.Path.{_≡_, refl, sym, ap, _∙_}
 use mathlib.Core.Bool.{Bool, true, false, not, cond, _&&_, _||_}
 use mathlib.Core.Logic.{_⊎_, inl, inr, ⊎-elim}
@@ -11,7 +11,8 @@ use borrow.Author.Tests.{not-true, not-false, le-leb, lt-leb}
 use Rattle.round.specs.Records.{word}
 use Rattle.round.specs.Questions.{within}
 use lib.Dec.{leb, ltb}
-use lib.ListN.{length, getD, replicate, length-append, length-replicate}
+use lib.ListN.{length, getD, take, drop, replicate, length-append, length-replicate, length-drop}
+use lib.Seq.{take-all}
 use Rattle.round.specs.Lists.{tabulate, tabulateFrom, sum, sumOf, all, apart}
 
 -- true is not false
@@ -206,3 +207,7 @@ cond-no x y e d = rw e d
 pub cleared : (n : ℕ) (rest after : List ℕ) → after ≡ replicate n 0 ++ rest → length after ≡ n → after ≡ replicate n 0
 cleared n [] after e many = e ∙ append-none (replicate n 0)
 cleared n (x ∷ rest) after e many = absurd (omega (arith, simp (length-append, length-replicate) at (ap length e)))
+
+-- the part of a list behind its first two, as long as it is
+pub rest-whole : (s : List ℕ) → take (length s - 2) (drop 2 s) ≡ drop 2 s
+rest-whole s = take-all (length s - 2) (drop 2 s) (omega (arith, length-drop 2 s))

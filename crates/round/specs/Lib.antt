@@ -14,4 +14,8 @@ pub mod Sound
 pub mod Read
 pub mod Parts
 pub mod Outcome
+pub mod Calls
+pub mod Changed
+pub mod Replaced
+pub mod Opened
 pub mod Access

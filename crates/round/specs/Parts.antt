@@ -1,5 +1,5 @@
 -- What the reader's answers about some records stand for (document 01, "The questions, in order").
-use Prim.Native.Nat.{ℕ, _+_, _≤_, _<_}
+use Prim.Native.Nat.{ℕ, _+_, _*_, _≤_, _<_}
 use mathlib.Core.Path.{_≡_}
 use mathlib.Core.Bool.{cond}
 use mathlib.Core.List.{List, _++_}
@@ -27,8 +27,13 @@ pub record RunPart (file : List ℕ) (h : Head) (kind count from : ℕ) (r : Par
   -- where record number a starts at the byte `from`
   pub ends : (a end : ℕ) → from ≡ startOf file a → r ≡ Lawful end → end ≡ startOf file (a + count)
 
--- the same, with the table of their starts as it was and is
-pub record RunRead (file : List ℕ) (h : Head) (kind count from : ℕ) (before : List ℕ) (r : Part) (starts : List ℕ) : Type 0 where
+-- a table has where each of so many records behind the head starts, one after the other
+pub record StartsTo (file : List ℕ) (count : ℕ) (table : List ℕ) : Type 0 where
+  pub room : count ≤ length table
+  pub starts-at : (k : ℕ) → k < count → getD table k 0 ≡ startOf file (1 + k)
+
+-- the same, with the table of starts as it was and is: it has those of the records before these, and then of these too
+pub record RunRead (file : List ℕ) (h : Head) (kind first count from : ℕ) (before : List ℕ) (r : Part) (starts : List ℕ) : Type 0 where
   pub part : RunPart file h kind count from r
-  pub starts-at : (a end k : ℕ) → from ≡ startOf file a → r ≡ Lawful end → k < count → getD starts k 0 ≡ startOf file (a + k)
-  pub starts-kept : (k : ℕ) → count ≤ k → getD starts k 0 ≡ getD before k 0
+  pub low : (end : ℕ) → r ≡ Lawful end → end ≤ 1028 * (1 + (first + count))
+  pub told : (end : ℕ) → r ≡ Lawful end → from ≡ startOf file (1 + first) → StartsTo file first before → StartsTo file (first + count) starts

@@ -4,7 +4,7 @@ use Prim.Native.Nat.{ℕ, suc, _+_, _*_, _-_, _/_, _%_, _^_}
 use mathlib.Core.Bool.{Bool, cond, _&&_, _||_}
 use mathlib.Core.List.{List, [], _∷_, _++_}
 use lib.Dec.{leb, eqb}
-use lib.ListN.{length, getD}
+use lib.ListN.{length, getD, drop}
 use Rattle.round.specs.declared.form.Form.{Form}
 use Rattle.round.specs.declared.form.Form.the-variants.{Narrow, Wide}
 use Rattle.round.specs.Form.{institutesMost, entryWidth}
@@ -82,32 +82,40 @@ instituteQuestions h body =
     ∷ asked 7 (all steps (λ k. leb (sumOf (h .types) (reserved k)) (positions k)))
     ∷ cond (ownSteps h) listed []
 
--- the number of entries in a candidate's body; the institute number and the code of entry k, from 0
+-- the number of entries in the bytes of a row; the institute number and the code of entry k, from 0
 abbrev pub entryCount : Form → List ℕ → ℕ
-entryCount form body = (length body - 2) / entryWidth form
+entryCount form row = length row / entryWidth form
 
 abbrev pub instituteIn : Form → List ℕ → ℕ → ℕ
-instituteIn Narrow body k = getD body (2 + 2 * k) 0
-instituteIn Wide body k = word body (2 + 3 * k)
+instituteIn Narrow row k = getD row (2 * k) 0
+instituteIn Wide row k = word row (3 * k)
 
 abbrev pub codeIn : Form → List ℕ → ℕ → ℕ
-codeIn Narrow body k = getD body (3 + 2 * k) 0
-codeIn Wide body k = getD body (4 + 3 * k) 0
+codeIn Narrow row k = getD row (2 * k + 1) 0
+codeIn Wide row k = getD row (3 * k + 2) 0
 
--- 8: the code and the marks; 9: each entry; 10: the entries are all different
+-- of a row by itself, in a round with so many institutes, by a candidate's own code: 9, each entry; 10, the entries are all different
+abbrev pub rowQuestions : Form → ℕ → ℕ → List ℕ → List Question
+rowQuestions form institutes own row =
+    let entries : ℕ = entryCount form row in
+    let institute : ℕ → ℕ = instituteIn form row in
+    let code : ℕ → ℕ = codeIn form row in
+    let lawful : ℕ → Bool = λ k. within 1 institutes (institute k) && (eqb (code k) 0 || eqb (code k) own) in
+    let same : ℕ → ℕ → Bool = λ k l. eqb (institute k) (institute l) && eqb (code k) (code l) in
+    asked 9 (all entries lawful)
+    ∷ asked 10 (apart entries same)
+    ∷ []
+
+-- the bytes of the row in a candidate's body: those behind code and marks
+abbrev pub rowBytes : List ℕ → List ℕ
+rowBytes body = drop 2 body
+
+-- 8: the code and the marks; then 9 and 10 of the row
 abbrev pub candidateQuestions : Head → List ℕ → List Question
 candidateQuestions h body =
     let own : ℕ = getD body 0 0 in
     let marks : ℕ = getD body 1 0 in
-    let entries : ℕ = entryCount (h .form) body in
-    let institute : ℕ → ℕ = instituteIn (h .form) body in
-    let code : ℕ → ℕ = codeIn (h .form) body in
-    let lawful : ℕ → Bool = λ k. within 1 (h .institutes) (institute k) && (eqb (code k) 0 || eqb (code k) own) in
-    let same : ℕ → ℕ → Bool = λ k l. eqb (institute k) (institute l) && eqb (code k) (code l) in
-    asked 8 (leb own 4 && leb (suc marks) (2 ^ h .types))
-    ∷ asked 9 (all entries lawful)
-    ∷ asked 10 (apart entries same)
-    ∷ []
+    asked 8 (leb own 4 && leb (suc marks) (2 ^ h .types)) ∷ rowQuestions (h .form) (h .institutes) own (rowBytes body)
 
 -- the length of a merit list, by its body, and the candidate number at a place, from 0
 abbrev pub meritCount : List ℕ → ℕ

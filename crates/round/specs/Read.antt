@@ -7,7 +7,7 @@ use lib.ListN.{length, getD, replicate}
 use mathlib.Core.Path.{_≡_}
 use Rattle.round.specs.declared.head as code
 use Rattle.round.specs.declared.form.Form.{Form}
-use Rattle.round.specs.Form.{institutesMost, entryWidth}
+use Rattle.round.specs.Form.{institutesMost}
 use Rattle.round.specs.Records.{Head}
 use Rattle.round.specs.Steps.{stepWidth, stepCount, stepCode, receiverIn}
 use Rattle.round.specs.Questions.{within, instituteIn, codeIn}
@@ -37,22 +37,17 @@ pub record LawfulSteps (h : Head) (body : List ℕ) : Type 0 where
   pub coded : (k : ℕ) → k < stepCount h body → stepCode h body k < 5
   pub handed-on : (k : ℕ) → k < stepCount h body → receiverIn h body k ≤ 12
 
--- a body no shorter and no longer than a candidate's may be; that it holds whole entries is for question 3
-pub record CandidateBody (form : Form) (body : List ℕ) : Type 0 where
-  pub least : 2 ≤ length body
-  pub most : length body ≤ 2 + 16 * entryWidth form
-
 -- what question 8 asks, 9 of one entry, and 10 of two
 abbrev pub marksIn : ℕ → List ℕ → Bool
 marksIn types body = leb (getD body 0 0) 4 && leb (suc (getD body 1 0)) (2 ^ types)
 
-abbrev pub lawfulIn : Head → List ℕ → ℕ → Bool
-lawfulIn h body k =
-    within 1 (h .institutes) (instituteIn (h .form) body k)
-    && (eqb (codeIn (h .form) body k) 0 || eqb (codeIn (h .form) body k) (getD body 0 0))
+abbrev pub lawfulIn : Form → ℕ → ℕ → List ℕ → ℕ → Bool
+lawfulIn form institutes own row k =
+    within 1 institutes (instituteIn form row k)
+    && (eqb (codeIn form row k) 0 || eqb (codeIn form row k) own)
 
 abbrev pub sameIn : Form → List ℕ → ℕ → ℕ → Bool
-sameIn form body k l = eqb (instituteIn form body k) (instituteIn form body l) && eqb (codeIn form body k) (codeIn form body l)
+sameIn form row k l = eqb (instituteIn form row k) (instituteIn form row l) && eqb (codeIn form row k) (codeIn form row l)
 
 -- the table of the candidate numbers seen in a merit list, before the first: a place for each number, and for 0
 unfoldable pub noneSeen : List ℕ

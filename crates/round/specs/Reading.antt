@@ -13,7 +13,7 @@ use Rattle.round.specs.Lists.{tabulate}
 use Rattle.round.specs.Round.{StepRule, Institute, Candidate, Round}
 use Rattle.round.specs.Records.{Head, headOf, bodyOf, ownSteps, instituteRecord, candidateRecord, meritRecord}
 use Rattle.round.specs.Steps.{stepCount, positionsIn, reservedIn, stepCode, receiverIn}
-use Rattle.round.specs.Questions.{entryCount, instituteIn, codeIn, meritCount, meritIn}
+use Rattle.round.specs.Questions.{entryCount, instituteIn, codeIn, rowBytes, meritCount, meritIn}
 
 -- step k, from 0, in an institute's body
 unfoldable pub stepIn : Head → List ℕ → ℕ → StepRule
@@ -32,16 +32,16 @@ dereserved types = record { category = Open; own = 0; reserved = replicate types
 unfoldable pub stepsIn : Head → List ℕ → List StepRule
 stepsIn h body = tabulate (stepCount h body) (stepIn h body) ++ cond (eqb (h .policy) 1) (dereserved (h .types) ∷ []) []
 
--- the entry at a place of a candidate's body, from 0
+-- the entry at a place of the bytes of a row, from 0
 unfoldable pub entryIn : Form → List ℕ → ℕ → Entry
-entryIn form body k = record { institute = instituteIn form body k; category = categoryOf (codeIn form body k) }
+entryIn form row k = record { institute = instituteIn form row k; category = categoryOf (codeIn form row k) }
+
+-- the row that bytes stand for
+unfoldable pub rowIn : Form → List ℕ → List Entry
+rowIn form row = tabulate (entryCount form row) (entryIn form row)
 
 unfoldable pub candidateIn : Form → List ℕ → Candidate
-candidateIn form body = record {
-  category = categoryOf (getD body 0 0);
-  marks = getD body 1 0;
-  row = tabulate (entryCount form body) (entryIn form body);
-}
+candidateIn form body = record { category = categoryOf (getD body 0 0); marks = getD body 1 0; row = rowIn form (rowBytes body) }
 
 -- an institute, by its body and that of its merit list
 unfoldable pub instituteFrom : Head → List ℕ → List ℕ → Institute

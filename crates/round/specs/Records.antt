@@ -83,6 +83,9 @@ candidateRecord h i = 1 + (h .institutes + i)
 abbrev pub meritRecord : Head → ℕ → ℕ
 meritRecord h j = 1 + (h .institutes + (h .candidates + j))
 
--- how many records a file with this head has
+-- how many records stand behind a head, and how many a file with it has
+abbrev pub behindHead : Head → ℕ
+behindHead h = h .institutes + (h .candidates + h .institutes)
+
 abbrev pub recordCount : Head → ℕ
-recordCount h = 1 + (h .institutes + (h .candidates + h .institutes))
+recordCount h = 1 + behindHead h

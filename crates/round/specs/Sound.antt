@@ -2,21 +2,28 @@
 use Prim.Native.Nat.{ℕ, _≤_, _<_, _^_}
 use mathlib.Core.Path.{_≡_}
 use mathlib.Core.Logic.{_⊎_}
-use lib.ListN.{length}
+use mathlib.Core.List.{List}
+use lib.ListN.{length, getD}
+use Rattle.round.specs.declared.entry.Category.{Category}
 use Rattle.round.specs.declared.entry.Category.the-variants.{Open}
+use Rattle.round.specs.declared.entry.Entry.{Entry}
 use Rattle.round.specs.Lists.{sum, sumOf}
 use Rattle.round.specs.Round.{Institute, Candidate, Round}
-use Rattle.round.specs.Places.{candidateAt, instituteAt, entryAt, stepAt, stepNumbers, meritAt}
+use Rattle.round.specs.Places.{noEntry, candidateAt, instituteAt, stepAt, stepNumbers, meritAt}
+
+-- the row of a candidate with a category, in a round with so many institutes
+pub record SoundRow (institutes : ℕ) (own : Category) (row : List Entry) : Type 0 where
+  pub row-short : length row ≤ 16
+  -- each entry names an institute of the round, with the open category or the candidate's own
+  pub entry-from : (k : ℕ) → k < length row → 1 ≤ getD row k noEntry .institute
+  pub entry-to : (k : ℕ) → k < length row → getD row k noEntry .institute ≤ institutes
+  pub entry-own : (k : ℕ) → k < length row → (getD row k noEntry .category ≡ Open) ⊎ (getD row k noEntry .category ≡ own)
+  pub entries-differ : (k l : ℕ) → k < length row → l < length row → getD row k noEntry ≡ getD row l noEntry → k ≡ l
 
 -- a candidate of a round with so many institutes and types
 pub record SoundCandidate (institutes types : ℕ) (c : Candidate) : Type 0 where
   pub marks-held : c .marks < 2 ^ types
-  pub row-short : length (c .row) ≤ 16
-  -- each entry names an institute of the round, with the open category or the candidate's own
-  pub entry-from : (k : ℕ) → k < length (c .row) → 1 ≤ entryAt c k .institute
-  pub entry-to : (k : ℕ) → k < length (c .row) → entryAt c k .institute ≤ institutes
-  pub entry-own : (k : ℕ) → k < length (c .row) → (entryAt c k .category ≡ Open) ⊎ (entryAt c k .category ≡ c .category)
-  pub entries-differ : (k l : ℕ) → k < length (c .row) → l < length (c .row) → entryAt c k ≡ entryAt c l → k ≡ l
+  pub row-sound : SoundRow institutes (c .category) (c .row)
 
 -- an institute of a round with so many candidates and types
 pub record SoundInstitute (candidates types : ℕ) (o : Institute) : Type 0 where

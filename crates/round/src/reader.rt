@@ -7,12 +7,11 @@ use crate::records::Part;
 use crate::records::read_kind;
 use crate::records::read_record;
 ghost use mathlib.Core.Path.{_≡_};
-ghost use Prim.Native.Nat.{_*_, _≤_};
+ghost use Prim.Native.Nat.{_≤_};
 ghost use lib.ListN.{length};
-ghost use Rattle.round.specs.Form.{institutesMost};
-ghost use Rattle.round.specs.Records.{formOf};
 ghost use Rattle.round.specs.Read.{asHead, InRange};
 ghost use Rattle.round.specs.Outcome.{refusalOf, RestRead, RoundRead};
+ghost use Rattle.round.specs.Calls.{refusalIn};
 
 // What reading a file comes to: its form and the numbers of its round, or the first question answered no and its byte.
 pub enum Reading {
@@ -33,25 +32,30 @@ fn handed(got: Part) -> Reading
     }
 }
 
-// A table for where the records of the candidates start.
-pub fn candidate_table() -> [usize; 512]
-    ensures { λ r. ⌜ length r ≡ 512 ⌝ }
-{
-    [0; 512]
+// The number of the first question answered no, and its byte.
+pub struct Refusal {
+    pub number: usize,
+    pub offset: usize,
 }
 
-// A table for where the merit lists of a narrow file start, and behind them the records of its institutes.
-pub fn narrow_table() -> [usize; 64]
-    ensures { λ r. ⌜ length r ≡ 64 ⌝ }
+// The refusal of a file that was not read. No call hands up one that was read: what this gives for it is of no matter.
+pub fn refused_by(got: Reading) -> Refusal
+    ensures { λ r. ⌜ r ≡ refusalIn got ⌝ }
 {
-    [0; 64]
+    match got {
+        Reading::Read(_) => Refusal {
+            number: 14,
+            offset: 0,
+        },
+        Reading::Refused { number, offset } => Refusal { number, offset },
+    }
 }
 
-// The same for any file.
-pub fn wide_table() -> [usize; 2000]
-    ensures { λ r. ⌜ length r ≡ 2000 ⌝ }
+// A table for where the records behind the head start.
+pub fn start_table() -> [u32; 2512]
+    ensures { λ r. ⌜ length r ≡ 2512 ⌝ }
 {
-    [0; 2000]
+    [0; 2512]
 }
 
 // The numbers that stand in for a head while none but the form is read.
@@ -68,30 +72,23 @@ fn unread(form: Form) -> Head
 }
 
 // The records after the head, and the end of the file.
-fn read_rest(
-    file: &[u8],
-    from: usize,
-    h: Head,
-    candidates: &mut [usize],
-    merits: &mut [usize],
-) -> Reading
+fn read_rest(file: &[u8], from: usize, h: Head, starts: &mut [u32]) -> Reading
     requires { ⌜ InRange (asHead h) ⌝ }
-    requires { ⌜ from ≤ length (now file) ⌝ }
-    requires { ⌜ (512 ≤ length (now candidates)) × (2 * institutesMost (h .form) ≤ length (now merits)) ⌝ }
-    ensures { λ r. ⌜ RestRead (now (file .entry)) (asHead h) from r
-        (now (candidates .entry)) (now (candidates .exit))
-        (now (merits .entry)) (now (merits .exit)) ⌝ }
+    requires { ⌜ (from ≤ length (now file)) × (from ≤ 12) ⌝ }
+    requires { ⌜ 2512 ≤ length (now starts) ⌝ }
+    ensures { λ r. ⌜ RestRead (now (file .entry)) (asHead h) from r (now (starts .exit)) ⌝ }
 {
+    let n = h.candidates;
     let m = h.institutes;
-    let institutes = read_kind(file, from, h, 2, m, &mut merits[m..]);
+    let institutes = read_kind(file, from, h, 2, 0, m, starts);
     let Part::Lawful { end } = institutes else {
         return handed(institutes);
     };
-    let rows = read_kind(file, end, h, 3, h.candidates, candidates);
+    let rows = read_kind(file, end, h, 3, m, n, starts);
     let Part::Lawful { end } = rows else {
         return handed(rows);
     };
-    let lists = read_kind(file, end, h, 4, m, merits);
+    let lists = read_kind(file, end, h, 4, m + n, m, starts);
     let Part::Lawful { end: last } = lists else {
         return handed(lists);
     };
@@ -105,13 +102,10 @@ fn read_rest(
     }
 }
 
-// A round file: refused with the first question answered no and its byte, or read, with where each candidate's record,
-// each merit list's and each institute's starts.
-pub fn read_round(file: &[u8], candidates: &mut [usize], merits: &mut [usize]) -> Reading
-    requires { ⌜ (512 ≤ length (now candidates)) × (2 * institutesMost (formOf (now file)) ≤ length (now merits)) ⌝ }
-    ensures { λ r. ⌜ RoundRead (now (file .entry)) r
-        (now (candidates .entry)) (now (candidates .exit))
-        (now (merits .entry)) (now (merits .exit)) ⌝ }
+// A round file: refused with the first question answered no and its byte, or read, with where each record behind the head starts.
+pub fn read_round(file: &[u8], starts: &mut [u32]) -> Reading
+    requires { ⌜ 2512 ≤ length (now starts) ⌝ }
+    ensures { λ r. ⌜ RoundRead (now (file .entry)) r (now (starts .exit)) ⌝ }
 {
     let form = form_of(file);
     let first = read_record(file, 0, unread(form), 1);
@@ -119,5 +113,5 @@ pub fn read_round(file: &[u8], candidates: &mut [usize], merits: &mut [usize]) -
         return handed(first);
     };
     let h = head_in(&file[4..end], form);
-    read_rest(file, end, h, candidates, merits)
+    read_rest(file, end, h, starts)
 }

@@ -12,7 +12,7 @@ use crate::word::within;
 use crate::word::word;
 ghost use mathlib.Core.Path.{_≡_};
 ghost use mathlib.Core.Bool.{true};
-ghost use Prim.Native.Nat.{_≤_};
+ghost use Prim.Native.Nat.{_+_, _*_, _≤_};
 ghost use lib.ListN.{length};
 ghost use Rattle.round.specs.Records.{nextAt};
 ghost use Rattle.round.specs.Questions.{firstNo, leadQuestions, kindQuestions, questionsAt, rowAllowed, instituteAllowed, lengthAllowed};
@@ -148,18 +148,20 @@ pub fn read_record(file: &[u8], at: usize, h: Head, kind: usize) -> Part
     }
 }
 
-// The records of one kind, as many as are due, from a byte on; the table gets where each starts.
+// The records of one kind, as many as are due, from a byte on; the table gets where each starts, from a place on.
 pub fn read_kind(
     file: &[u8],
     from: usize,
     h: Head,
     kind: usize,
+    first: usize,
     count: usize,
-    starts: &mut [usize],
+    starts: &mut [u32],
 ) -> Part
     requires { ⌜ InRange (asHead h) ⌝ }
-    requires { ⌜ (from ≤ length (now file)) × (count ≤ length (now starts)) ⌝ }
-    ensures { λ r. ⌜ RunRead (now (file .entry)) (asHead h) kind count from (now (starts .entry)) r (now (starts .exit)) ⌝ }
+    requires { ⌜ (from ≤ length (now file)) × (from ≤ 1028 * (1 + first)) ⌝ }
+    requires { ⌜ (first + count ≤ 2512) × (2512 ≤ length (now starts)) ⌝ }
+    ensures { λ r. ⌜ RunRead (now (file .entry)) (asHead h) kind first count from (now (starts .entry)) r (now (starts .exit)) ⌝ }
 {
     let mut at = from;
     for i in 0..count {
@@ -167,7 +169,7 @@ pub fn read_kind(
         let Part::Lawful { end } = got else {
             return got;
         };
-        starts[i] = at;
+        starts[first + i] = at as u32;
         at = end;
     }
     Part::Lawful { end: at }

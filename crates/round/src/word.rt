@@ -19,6 +19,13 @@ pub fn long(x: u16) -> usize
     x as usize
 }
 
+// A four-byte number of a table as a number.
+pub fn longer(x: u32) -> usize
+    ensures { λ r. ⌜ r ≡ x ⌝ }
+{
+    x as usize
+}
+
 // The two-byte number at a place, little-endian.
 pub fn word(s: &[u8], i: usize) -> usize
     requires { ⌜ i + 2 ≤ length (now s) ⌝ }

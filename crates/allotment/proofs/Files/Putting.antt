@@ -13,16 +13,22 @@ use Rattle.round.specs.declared.form.Form.{Form}
 use Rattle.round.specs.declared.form.Form.the-variants.{Narrow, Wide}
 use Rattle.round.specs.Form.{institutesMost, seatWidth}
 use Rattle.round.specs.Round.{Round}
-use Rattle.round.proofs.Words.{reached}
+use Rattle.round.proofs.Words.{reached, tabulate-at}
 use Rattle.round.proofs.Joined.{sets-append, joined-more}
-use Rattle.offers.specs.Process.{Seat, noSeat}
-use Rattle.allotment.specs.Areas.{closingCount, closingWidth, placesTo, closingPlaces, closingBytes}
+use Rattle.choice.specs.Noted.{notedOf}
+use Rattle.offers.specs.Process.{Seat, noSeat, accountAtEnd}
+use Rattle.allotment.specs.Areas.{closingCount, closingWidth, closingBytes}
 use Rattle.offers.specs.Areas.{wordBytes, seatBytes}
 use Rattle.offers.proofs.SeatBytes.{seat-within}
-use Rattle.allotment.specs.Writing.{seatHeld, seatsHeld, heldBytes, HoldersFew}
+use Rattle.allotment.specs.Writing.{seatHeld, seatsHeld, heldBytes, HoldersFew, closingsIn}
 use Rattle.allotment.proofs.Files.Pieces.{length-pieces}
 use Rattle.allotment.proofs.Files.AreaSeats.{length-seat, places-wide, length-closing}
-use Rattle.allotment.proofs.Files.Closing.{held-at, place-alike}
+use Rattle.allotment.proofs.Files.Closing.{places-few, closings-in}
+
+-- the seat that two arrays hold for a candidate stands in the list that they hold
+pub held-at : (holders steps : List ℕ) (i : ℕ) → i < length holders → getD (seatsHeld holders steps) i noSeat ≡ seatHeld holders steps i
+unfolding seatsHeld
+held-at holders steps i l = tabulate-at (length holders) (seatHeld holders steps) noSeat i l
 
 -- one piece more
 pieces-more : (w : ℕ) (f : ℕ → List ℕ) → ((i : ℕ) → length (f i) ≡ w) → (area : List ℕ) (at n : ℕ) {now : List ℕ}
@@ -79,15 +85,7 @@ pub seats-put : (form : Form) (holders steps area : List ℕ) {i : ℕ} {now : L
 unfolding heldBytes
 seats-put form holders steps area l m e = reached (λ n. sets area 0 (joined (tabulate n (heldPieces form holders steps)))) l m (sym e)
 
-pub places-few : (listed : Bool) → closingCount listed ≤ 12
-unfolding closingCount
-places-few true = omega arith
-places-few false = omega arith
-
--- their number, as code has found it
-pub count-is : (r : Round) {listed : Bool} {count : ℕ} → listed ≡ r .stepsListed → count ≡ closingCount listed → count ≡ closingCount (r .stepsListed)
-count-is r flag found = found ∙ ap closingCount flag
-
+-- the number of closing places, as code has found it
 module _ (listed : Bool) {count : ℕ} (found : count ≡ closingCount listed) where
   pub count-few : count ≤ 12
   count-few = omega (arith, found, places-few listed)
@@ -95,34 +93,31 @@ module _ (listed : Bool) {count : ℕ} (found : count ≡ closingCount listed) w
   pub places-room : (at : ℕ) {size : ℕ} → at + closingWidth listed ≤ size → at + 2 * count ≤ size
   places-room at l = omega (arith, places-wide listed, ap (λ n. 2 * n) found)
 
--- the bytes of an institute's closing places, step by step
-abbrev pub closingPieces : Round → ℕ → ℕ → List ℕ
-closingPieces r j k = wordBytes (getD (closingPlaces r j) k 0)
+-- the bytes of the closing places in the numbers of an account, step by step
+abbrev pub closingPieces : List ℕ → ℕ → List ℕ
+closingPieces noted k = wordBytes (getD noted (k * 5 + 4) 0)
 
 -- one closing place more
-pub closing-put : (r : Round) (j : ℕ) (area : List ℕ) (at k : ℕ) {before now places : List ℕ}
-    {count : ℕ} → count ≡ closingCount (r .stepsListed) → k < count → before ≡ sets area at (joined (tabulate k (closingPieces r j))) → places ≡ placesTo 12 r j
-    → now ≡ sets before (at + 2 * k) (wordBytes (getD places k 0)) → now ≡ sets area at (joined (tabulate (k + 1) (closingPieces r j)))
-closing-put r j area at k {before} {now} {places} {count} c l e f g =
-    let place : getD places k 0 ≡ getD (closingPlaces r j) k 0 =
-    ap (λ (l : List ℕ). getD l k 0) f ∙ place-alike r j k 12 (closingCount (r .stepsListed)) (omega (arith, places-few (r .stepsListed))) (omega (arith, c)) in
-    g ∙ (ap (λ (x : ℕ). sets before (at + 2 * k) (wordBytes x)) place ∙ pieces-more 2 (closingPieces r j) (λ k. refl) area at k e)
+pub closing-put : (noted area : List ℕ) (at k : ℕ) {before now : List ℕ} → before ≡ sets area at (joined (tabulate k (closingPieces noted)))
+    → now ≡ sets before (at + 2 * k) (wordBytes (getD noted (k * 5 + 4) 0)) → now ≡ sets area at (joined (tabulate (k + 1) (closingPieces noted)))
+closing-put noted area at k e g = g ∙ pieces-more 2 (closingPieces noted) (λ k. refl) area at k e
 
 -- all of them
-pub closings-put : (r : Round) (j : ℕ) (area : List ℕ) (at : ℕ) {k count : ℕ} {now : List ℕ} → count ≡ closingCount (r .stepsListed) → k ≤ count → count ≤ k
-    → now ≡ sets area at (joined (tabulate k (closingPieces r j))) → now ≡ sets area at (closingBytes r j)
-unfolding closingBytes
-closings-put r j area at {k} {count} c l m e =
-    let all : k ≡ closingCount (r .stepsListed) = omega (arith, c) in
-    e ∙ ap (λ n. sets area at (joined (tabulate n (closingPieces r j)))) all
+pub closings-put : (listed : Bool) (noted area : List ℕ) (at : ℕ) {k count : ℕ} {now : List ℕ} → count ≡ closingCount listed → k ≤ count → count ≤ k
+    → now ≡ sets area at (joined (tabulate k (closingPieces noted))) → now ≡ sets area at (closingsIn listed noted)
+unfolding closingsIn
+closings-put listed noted area at {k} {count} c l m e =
+    let all : k ≡ closingCount listed = omega (arith, c) in
+    e ∙ ap (λ n. sets area at (joined (tabulate n (closingPieces noted)))) all
 
 -- one institute more
 pub institute-put : (r : Round) (area : List ℕ) (at j : ℕ) {before now : List ℕ}
     {listed : Bool} {w : ℕ} → listed ≡ r .stepsListed → w ≡ closingWidth listed
-    → before ≡ sets area at (joined (tabulate j (closingBytes r))) → now ≡ sets before (at + w * j) (closingBytes r j)
+    → before ≡ sets area at (joined (tabulate j (closingBytes r)))
+    → {noted : List ℕ} → noted ≡ notedOf (accountAtEnd r j) → now ≡ sets before (at + w * j) (closingsIn listed noted)
     → now ≡ sets area at (joined (tabulate (j + 1) (closingBytes r)))
-institute-put r area at j {before} {now} {listed} {w} flag wide e f =
-    f ∙ ap (λ (w : ℕ). sets before (at + w * j) (closingBytes r j)) (wide ∙ ap closingWidth flag) ∙ pieces-more (closingWidth (r .stepsListed)) (closingBytes r) (length-closing r) area at j e
+institute-put r area at j {before} {now} {listed} {w} flag wide e {noted} is f =
+    f ∙ ap (λ (bytes : List ℕ). sets before (at + w * j) bytes) (ap (λ (b : Bool). closingsIn b noted) flag ∙ closings-in r j is) ∙ ap (λ (w : ℕ). sets before (at + w * j) (closingBytes r j)) (wide ∙ ap closingWidth flag) ∙ pieces-more (closingWidth (r .stepsListed)) (closingBytes r) (length-closing r) area at j e
 
 -- all of them
 pub institutes-put : (r : Round) (area : List ℕ) (at : ℕ) {j institutes : ℕ} {now : List ℕ} → j ≤ institutes → institutes ≤ j

@@ -1,16 +1,18 @@
 -- `choice::choose` meets its contract: each turn of the loop is a step of the definition. Assumes nothing.
 use Prim.Native.Nat.{_-_, _≤_}
+use mathlib.Core.Path.{_≡_, refl, ap, _∙_}
 use native.Mathlib.Omega.{arith}
+use lib.ListN.{length}
 use Rattle.choice.proofs.Choosing.{fewer-rules, Stepping, set-out, go-on, arrive}
 use borrow.Author.Needs.{needs}
 use Rattle.choice.proofs.choose.Statement.{statement}
 use Rattle.choice.proofs.choose.Tie as tie
 
 abbrev Inv-loop : tie.InvT-loop
-Inv-loop rules types count marks offers first steps₀ used₀ handed₀ k₀ steps used handed k = (k ≤ count) × Stepping marks offers rules types count first k steps used handed
+Inv-loop rules types count marks offers first steps₀ used₀ noted₀ handed₀ k₀ steps used noted handed k = (k ≤ count) × (length noted ≡ length noted₀) × Stepping marks offers rules types count first k steps used noted handed
 
 abbrev μ-loop : tie.MeasureT-loop
-μ-loop rules types count marks offers first steps₀ used₀ handed₀ k₀ steps used handed k = count - k
+μ-loop rules types count marks offers first steps₀ used₀ noted₀ handed₀ k₀ steps used noted handed k = count - k
 
 clear-requires : tie.Need-clear-requires Inv-loop μ-loop
 clear-requires c κs = search needs
@@ -22,13 +24,16 @@ none-handed-requires : tie.Need-none-handed-requires Inv-loop μ-loop
 none-handed-requires c κs = search needs
 
 loop-holds : tie.Need-loop-holds Inv-loop μ-loop
-loop-holds c = (omega arith, search set-out)
+loop-holds c = (omega arith, refl, search set-out)
 
 slice-aggregate-next-step : tie.Need-slice-aggregate-next-step Inv-loop μ-loop
 slice-aggregate-next-step c = search needs
 
 next-step-requires : tie.Need-next-step-requires Inv-loop μ-loop
-next-step-requires c κs = (search fewer-rules, search needs)
+next-step-requires c κs =
+    let start : tie.Start Inv-loop μ-loop = search needs in
+    let turn : tie.At-loop Inv-loop μ-loop = search needs in
+    (search fewer-rules, (search needs, (search needs, λ f. turn .loop .inv .1 ∙ ap length (start .pre .1 .1 f))))
 
 add-k : tie.Need-add-k Inv-loop μ-loop
 add-k c = search needs
@@ -37,7 +42,7 @@ loop-less : tie.Need-loop-less Inv-loop μ-loop
 loop-less c = search needs
 
 loop-again : tie.Need-loop-again Inv-loop μ-loop
-loop-again c = (omega arith, search go-on)
+loop-again c = (omega arith, search needs, search go-on)
 
 same-length : tie.Need-same-length Inv-loop μ-loop
 same-length c = cc
@@ -45,8 +50,11 @@ same-length c = cc
 same-length-2 : tie.Need-same-length-2 Inv-loop μ-loop
 same-length-2 c = cc
 
+same-length-3 : tie.Need-same-length-3 Inv-loop μ-loop
+same-length-3 c = search needs
+
 returns : tie.Need-returns Inv-loop μ-loop
-returns c = arrive (omega arith) (c .before .loop .inv .1)
+returns c = arrive (omega arith) (c .before .loop .inv .2)
 
 pub choose-spec : {M : Type 1} → statement M
 choose-spec =
@@ -65,4 +73,5 @@ choose-spec =
     loop-again
     same-length
     same-length-2
+    same-length-3
     returns)

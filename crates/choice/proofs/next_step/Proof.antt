@@ -85,10 +85,14 @@ add-handed : tie.Need-add-handed
 add-handed c =
     let start : tie.Start = search needs in
     let stepped : tie.After-step = search needs in
-    handed-fits (start .pre .0) (start .pre .1 .0) (omega (arith, stepped .step .ensures .1))
+    let a = start .args in
+    handed-fits (start .pre .0) (start .pre .1 .0) (a .marks .now) (a .offers .now) (a .steps .now) (stepped .step .ensures .1)
 
 slice-write-handed : tie.Need-slice-write-handed
 slice-write-handed c = search receiver-low
+
+note-requires : tie.Need-note-requires
+note-requires c κs = let start : tie.Start = search needs in (omega (arith, start .pre .0 .steps-most), start .pre .1 .1 .1)
 
 same-length : tie.Need-same-length
 same-length c = search needs
@@ -99,12 +103,16 @@ same-length-2 c = search needs
 same-length-3 : tie.Need-same-length-3
 same-length-3 c = search needs
 
+same-length-4 : tie.Need-same-length-4
+same-length-4 c = search needs
+
 returns : tie.Need-returns
 returns c =
     let start : tie.Start = search needs in
     let stepped : tie.After-step = search needs in
     let a = start .args in
-    step-advances (start .pre .0) (start .pre .1 .0) (a .first) (a .marks .now) (a .offers .now) (a .steps .now) (a .used .now) (stepped .step .ensures)
+    let noting : tie.After-note = search needs in
+    step-advances (start .pre .0) (start .pre .1 .0) (a .first) (a .marks .now) (a .offers .now) (a .steps .now) (a .used .now) (a .noted .now) (stepped .step .ensures) (noting .note .ensures)
 
 pub next-step-spec : {M : Type 1} → statement M
 next-step-spec =
@@ -137,7 +145,9 @@ next-step-spec =
     slice-read-handed
     add-handed
     slice-write-handed
+    note-requires
     same-length
     same-length-2
     same-length-3
+    same-length-4
     returns)

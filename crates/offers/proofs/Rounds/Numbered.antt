@@ -104,7 +104,7 @@ module _ (r : Round) where
   unfolding rowBy
   rows-entry i s p l =
       let x = entryAt (candidateAt r i) p in
-      let q : suc (x .institute - 1) ≡ x .institute = omega (arith, s .entry-from p l) in
+      let q : suc (x .institute - 1) ≡ x .institute = omega (arith, s .row-sound .entry-from p l) in
       number-entry (x .institute - 1) (x .category) ∙ (λ k. record { institute = q k; category = x .category })
 
   -- the rank of an entry of a sound row is its place
@@ -113,7 +113,7 @@ module _ (r : Round) where
   rank-place i s p l =
       let x = entryAt (candidateAt r i) p in
       let m : rankIn (rowAt r i) x < length (rowAt r i) = omega (arith, rank-first (rowAt r i) p l) in
-      s .entries-differ (rankIn (rowAt r i) x) p m l (rank-found (rowAt r i) x m)
+      s .row-sound .entries-differ (rankIn (rowAt r i) x) p m l (rank-found (rowAt r i) x m)
 
   pub rows-ranked : {institutes types : ℕ} (i : ℕ) → SoundCandidate institutes types (candidateAt r i) → Ranked (rowsOf r i)
   unfolding rowBy

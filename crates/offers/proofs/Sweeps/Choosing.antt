@@ -1,5 +1,5 @@
 -- The choice among the listed offers is the institute's choice from those offers, and what is put into a table is that choice.
-use Prim.Native.Nat.{ℕ, zero, suc, _-_, _≤_, _<_}
+use Prim.Native.Nat.{ℕ, zero, suc, _+_, _-_, _*_, _≤_, _<_}
 use mathlib.Core.Path.{_≡_, refl, sym, _∙_, ap}
 use mathlib.Core.Bool.{Bool, true, false, not}
 use mathlib.Core.List.{List, [], _∷_, map}
@@ -13,8 +13,8 @@ use Rattle.round.specs.declared.entry.Category.{Category}
 use Rattle.round.specs.Category.{codeOf}
 use Rattle.round.specs.Lists.{count}
 use Rattle.round.specs.Round.{StepRule, Round}
-use Rattle.round.specs.declared.head.Head.{Head as CodeHead}
-use Rattle.round.specs.Reading.{roundOf}
+use Rattle.round.specs.declared.opened.Opened.{Opened}
+use Rattle.round.specs.Opened.{openedRound, AtHand}
 use Rattle.round.specs.Places.{candidateAt, instituteAt}
 use Rattle.round.specs.Sound.{SoundInstitute}
 use Rattle.round.proofs.Words.{and-fst, and-snd, tabulate-at}
@@ -23,14 +23,15 @@ use Rattle.choice.specs.Choice.{choose}
 use Rattle.choice.specs.Account.{account, typeIn, typesIn}
 use Rattle.choice.specs.Offers.{offeredBy}
 use Rattle.choice.specs.Gathers.{Gathers}
+use Rattle.choice.specs.Noted.{notedOf, ClosingsFew, Placed}
 use Rattle.choice.proofs.Counting.{test, clash}
-use Rattle.choice.proofs.Fewer.{SameAmong, choose-gathered, type-gathered}
+use Rattle.choice.proofs.Fewer.{SameAmong, choose-gathered, type-gathered, noted-gathered}
+use Rattle.choice.proofs.Noted.{noted-few}
 use Rattle.offers.specs.Offers.{candidateOn, marksOn, atPlaces, placeOn, stepsOn, accountOn, stepFor, typeFor}
 use Rattle.offers.specs.Process.{candidateCount}
-use Rattle.offers.specs.Held.{AtHand}
 use Rattle.offers.specs.Sweeps.{offerTo, marksOf, offersBy, offersAt, takesPart, Gathered, ChosenListed, PutFor, Apart, Scattered}
 use Rattle.offers.proofs.Rounds.Places.{meritLength, candidate-at, candidate-below, place-of}
-use Rattle.offers.proofs.Sweeps.Known.{institute-sound, merit-few, knows-merit}
+use Rattle.offers.proofs.Sweeps.Known.{institute-sound, merit-few}
 use Rattle.choice.proofs.Counts.{count-most}
 use Rattle.choice.proofs.Gathered.{number-below, place-numbered}
 use Rattle.offers.proofs.Sweeps.Gathers.{gathers-front}
@@ -46,8 +47,8 @@ unfolding holds
 none-held t = rw zero-div
 
 -- k offers are listed: who makes each, the marks and the offer
-module _ (r : Round) (j : ℕ) {types : ℕ} (sound : SoundInstitute (candidateCount r) types (instituteAt r j)) (offer : ℕ → ℕ) {who marks offers : List ℕ} {k : ℕ}
-    (g : Gathered r j offer (meritLength r j) who marks offers k) where
+module _ (r : Round) (j : ℕ) {types : ℕ} (sound : SoundInstitute (candidateCount r) types (instituteAt r j)) (offer : ℕ → ℕ) {first : Bool} {who marks offers places : List ℕ} {k : ℕ}
+    (g : Gathered r j offer first (meritLength r j) who marks offers places k) where
   abbrev X : ℕ → Bool
   X = offersAt r j offer
 
@@ -110,9 +111,10 @@ module _ (r : Round) (j : ℕ) {types : ℕ} (sound : SoundInstitute (candidateC
       rw (lt-ltb (placeOn r j (getD who q 0)) L (omega arith), is) x
 
   -- what is chosen among the listed is what is chosen among all
-  module _ {first : Bool} {found typed : List ℕ} {rules : List StepRule} (fits : k ≤ length marks)
+  module _ {found typed noted : List ℕ} {rules : List StepRule} (fits : k ≤ length marks)
       (chose : (found ≡ choose (take k marks) (offeredBy (take k offers)) rules)
-      × (first ≡ true → typed ≡ typesIn (length (take k marks)) (account (take k marks) (offeredBy (take k offers)) rules)))
+      × (first ≡ true → typed ≡ typesIn (length (take k marks)) (account (take k marks) (offeredBy (take k offers)) rules))
+      × (first ≡ true → noted ≡ notedOf (account (take k marks) (offeredBy (take k offers)) rules)))
       (er : rules ≡ instituteAt r j .steps) where
     front-long : length (take k marks) ≡ count L X
     front-long = length-take-le k marks fits ∙ g .number
@@ -134,8 +136,19 @@ module _ (r : Round) (j : ℕ) {types : ℕ} (sound : SoundInstitute (candidateC
         (atPlaces r j (offersBy offer)) (offeredBy (take k offers)) offers-same rules p l x)
         ∙ ap (λ (s : List StepRule). typeIn (account (marksOn r j) (atPlaces r j (offersBy offer)) s) p) er
 
+    few-noted : first ≡ true → ClosingsFew k noted
+    few-noted told i l =
+        omega (arith, ap (λ (t : List ℕ). getD t (i * 5 + 4) 0) (chose .2 told), noted-few (take k marks) (offeredBy (take k offers)) rules i l, length-take-le k marks fits)
+
+    noted-all : first ≡ true → (table : List ℕ) → Placed places noted table → table ≡ notedOf (accountOn r j (offersBy offer))
+    unfolding accountOn
+    noted-all told table put =
+        noted-gathered X L (marksOn r j) (take k marks) (length-map (instituteAt r j .merit) _) front-long marks-front
+        (atPlaces r j (offersBy offer)) (offeredBy (take k offers)) offers-same places (g .places-at told) rules table (rw (chose .2 told) at put)
+        ∙ ap (λ (s : List StepRule). notedOf (account (marksOn r j) (atPlaces r j (offersBy offer)) s)) er
+
     chosen-listed : {chosen used : List ℕ} → L ≤ 512 → ((q : ℕ) → q < k → getD chosen q 0 ≡ getD found q 0) → ((q : ℕ) → q < k → getD used q 0 ≡ getD typed q 0)
-        → ChosenListed r j offer first who chosen used k
+        → ChosenListed r j offer first who chosen used places noted k
     unfolding stepFor typeFor
     chosen-listed few ec eu = record {
       few = omega (arith, listed-most);
@@ -148,32 +161,34 @@ module _ (r : Round) (j : ℕ) {types : ℕ} (sound : SoundInstitute (candidateC
       typed-at = λ told q l.
           let (p, m, x, at, is) = listed q l in
           eu q l ∙ ap (λ q. getD typed q 0) (sym at) ∙ type-at told p m x ∙ ap (λ p. typeIn (accountOn r j (offersBy offer)) p) (sym (listed-place q p m is));
+      noted-few = few-noted;
+      noted-as = noted-all;
     }
 
--- the offers to an institute of the file are listed, in tables that had room for every candidate
-module _ {file : List ℕ} {h : CodeHead} {candidates merits : List ℕ} (hand : AtHand file h candidates merits) {j : ℕ} (inside : j < h .institutes) (asked wanted : List ℕ)
-    {who marks offers : List ℕ} {k : ℕ} (g : Gathered (roundOf file) j (offerTo (suc j) asked wanted) (meritLength (roundOf file) j) who marks offers k) where
+-- the offers to an institute are listed, in tables that had room for every candidate
+module _ {file : List ℕ} {o : Opened} {row starts : List ℕ} (hand : AtHand file o row starts) {j : ℕ} (inside : j < o .head .institutes) (asked wanted : List ℕ)
+    {first : Bool} {who marks offers places : List ℕ} {k : ℕ}
+    (g : Gathered (openedRound file o row) j (offerTo (suc j) asked wanted) first (meritLength (openedRound file o row) j) who marks offers places k) where
   pub listed-few : k ≤ 512
   listed-few =
-      let known = knows-merit hand inside in
-      omega (arith, merit-few known, listed-most (roundOf file) j (institute-sound known) (offerTo (suc j) asked wanted) g)
+      omega (arith, merit-few hand inside, listed-most (openedRound file o row) j (institute-sound hand inside) (offerTo (suc j) asked wanted) g)
 
   pub front-fits : (l₀ l : List ℕ) → 512 ≤ length l₀ → length l ≡ length l₀ → k ≤ length l
   front-fits l₀ l room same = omega (arith, listed-few)
 
   -- listed and chosen among
-  pub listed-chosen : {first : Bool} {chosen used found typed : List ℕ} {rules : List StepRule} → k ≤ length marks
+  pub listed-chosen : {chosen used found typed noted : List ℕ} {rules : List StepRule} → k ≤ length marks
       → (found ≡ choose (take k marks) (offeredBy (take k offers)) rules)
       × (first ≡ true → typed ≡ typesIn (length (take k marks)) (account (take k marks) (offeredBy (take k offers)) rules))
-      → rules ≡ instituteAt (roundOf file) j .steps
+      × (first ≡ true → noted ≡ notedOf (account (take k marks) (offeredBy (take k offers)) rules))
+      → rules ≡ instituteAt (openedRound file o row) j .steps
       → ((q : ℕ) → q < k → getD chosen q 0 ≡ getD found q 0) → ((q : ℕ) → q < k → getD used q 0 ≡ getD typed q 0)
-      → ChosenListed (roundOf file) j (offerTo (suc j) asked wanted) first who chosen used k
+      → ChosenListed (openedRound file o row) j (offerTo (suc j) asked wanted) first who chosen used places noted k
   listed-chosen fits chose er =
-      let known = knows-merit hand inside in
-      chosen-listed (roundOf file) j (institute-sound known) (offerTo (suc j) asked wanted) g fits chose er (merit-few known)
+      chosen-listed (openedRound file o row) j (institute-sound hand inside) (offerTo (suc j) asked wanted) g fits chose er (merit-few hand inside)
 
 -- what was chosen is put into a table at those who take part
-module _ {r : Round} {j : ℕ} {offer : ℕ → ℕ} {first : Bool} {who chosen used : List ℕ} {k : ℕ} (l : ChosenListed r j offer first who chosen used k) where
+module _ {r : Round} {j : ℕ} {offer : ℕ → ℕ} {first : Bool} {who chosen used places noted : List ℕ} {k : ℕ} (l : ChosenListed r j offer first who chosen used places noted k) where
   pub who-apart : {n : ℕ} → candidateCount r ≡ n → k ≤ length who → Apart (take k who) n (length (take k who))
   who-apart e fits =
       rw (length-take-le k who fits)

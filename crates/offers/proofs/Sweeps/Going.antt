@@ -13,9 +13,8 @@ use Rattle.round.specs.declared.entry.Entry.{Entry}
 use Rattle.round.specs.Lists.{bit, count, sum, sumOf}
 use Rattle.round.specs.Round.{Round}
 use Rattle.round.specs.Sound.{Sound}
-use Rattle.round.specs.Reading.{roundOf}
-use Rattle.round.specs.Records.{headOf}
-use Rattle.round.specs.declared.head.Head.{Head as CodeHead}
+use Rattle.round.specs.Opened.{openedRound, AtHand}
+use Rattle.round.specs.declared.opened.Opened.{Opened}
 use Rattle.round.proofs.Words.{and-fst, and-snd, length-tabulate, tabulate-at}
 use Rattle.choice.proofs.Counting.{test, sameOr, and-true, clash, count-ext, sumOf-le}
 use Rattle.choice.proofs.Tabulate.{getD-zeros}
@@ -23,7 +22,7 @@ use Rattle.offers.specs.Rows.{rowAt, entryOf, sameCategory}
 use Rattle.offers.specs.Offers.{OfferSet, placeOn, stepFor}
 use Rattle.offers.specs.Process.{Seat, noSeat, isNone, candidateCount, instituteCount, madeTo, seatsAfter, mayOffer, entryTotal, tried, offersMade, seats}
 use Rattle.offers.specs.Ended.{Ended}
-use Rattle.offers.specs.Held.{AtHand, HeldIn}
+use Rattle.offers.specs.Held.{HeldIn}
 use Rattle.offers.specs.Sweeps.{mayTry, nextEntry, triedNext, askedNext, wantedNext, OffersMade, offerTo, offersBy, takesPart, ChosenAll, settled}
 use Rattle.offers.proofs.Rounds.Numbered.{rowsOf, row-length, same-refl}
 use Rattle.offers.proofs.Rounds.Places.{meritLength}
@@ -89,40 +88,44 @@ module _ {r : Round} {steps state asked wanted state' asked' wanted' fresh : Lis
   pub wants-many : length wanted' ≡ candidateCount r
   wants-many = ap length (o .wanted-now) ∙ length-tabulate 0 (candidateCount r) (wantedNext r steps state wanted)
 
-module _ {file : List ℕ} {h : CodeHead} {candidates merits : List ℕ} (hand : AtHand file h candidates merits) where
-  abbrev r : Round
-  r = roundOf file
+-- before the first sweep
+none-going : (r : Round) (n : ℕ) {wanted : List ℕ} → candidateCount r ≡ n → length wanted ≡ n
+    → Going r (replicate n 0) (replicate n 0) wanted (replicate n 0) 0
+none-going r n e many =
+    rw (← e) (record {
+      running = start-running r;
+      asked-many = length-replicate (candidateCount r) 0;
+      wanted-many = many ∙ sym e;
+      steps-many = length-replicate (candidateCount r) 0;
+      known = λ i hi. inl record { nothing = getD-zeros (candidateCount r) i; nobody = getD-zeros (candidateCount r) i };
+      unasked = λ i hi z. getD-zeros (candidateCount r) i;
+      stepped = λ i j hi hj e. absurd (omega (arith, getD-zeros (candidateCount r) i));
+      counted = sym (sum-zeros (candidateCount r));
+    })
 
-  abbrev sound : Sound (headOf file .types) (roundOf file)
+module _ {file : List ℕ} {h : Opened} {row starts : List ℕ} (hand : AtHand file h row starts) where
+  abbrev r : Round
+  r = openedRound file h row
+
+  abbrev sound : Sound (h .head .types) (openedRound file h row)
   sound = round-sound hand
 
-  pub going-start : {state asked wanted steps : List ℕ} → state ≡ replicate (h .candidates) 0 → asked ≡ replicate (h .candidates) 0
-      → steps ≡ replicate (h .candidates) 0 → length wanted ≡ h .candidates → Going (roundOf file) state asked wanted steps 0
-  going-start {state} {asked} {wanted} {steps} et ea es many =
-      rw (et, ea, es, ← candidates-many hand)
-      record {
-        running = start-running r;
-        asked-many = length-replicate (candidateCount r) 0;
-        wanted-many = many ∙ sym (candidates-many hand);
-        steps-many = length-replicate (candidateCount r) 0;
-        known = λ i hi. inl record { nothing = getD-zeros (candidateCount r) i; nobody = getD-zeros (candidateCount r) i };
-        unasked = λ i hi z. getD-zeros (candidateCount r) i;
-        stepped = λ i j hi hj e. absurd (omega (arith, getD-zeros (candidateCount r) i));
-        counted = sym (sum-zeros (candidateCount r));
-      }
+  pub going-start : {state asked wanted steps : List ℕ} → state ≡ replicate (h .head .candidates) 0 → asked ≡ replicate (h .head .candidates) 0
+      → steps ≡ replicate (h .head .candidates) 0 → length wanted ≡ h .head .candidates → Going (openedRound file h row) state asked wanted steps 0
+  going-start et ea es many = rw (et, ea, es) (none-going (openedRound file h row) (h .head .candidates) (candidates-many hand) many)
 
   -- the entries are few
-  entries-few : entryTotal (roundOf file) ≤ 8192
+  entries-few : entryTotal (openedRound file h row) ≤ 8192
   entries-few =
       omega (
         arith,
         entries r,
         sum-sixteens (candidateCount r),
         sound .candidates-most,
-        sumOf-le (candidateCount r) (λ p. rowsOf r p .len) (λ p. 16) (λ p m. omega (arith, row-length r p, sound .candidate p m .row-short)),
+        sumOf-le (candidateCount r) (λ p. rowsOf r p .len) (λ p. 16) (λ p m. omega (arith, row-length r p, sound .candidate p m .row-sound .row-short)),
       )
 
-  module _ {state asked wanted steps : List ℕ} {made : ℕ} (g : Going (roundOf file) state asked wanted steps made) where
+  module _ {state asked wanted steps : List ℕ} {made : ℕ} (g : Going (openedRound file h row) state asked wanted steps made) where
     seat-is : (i : ℕ) → i < candidateCount r → getD (seatsAfter r state) i noSeat ≡ seatBy asked steps i
     seat-is i hi = go (g .known i hi)
       where
@@ -138,7 +141,7 @@ module _ {file : List ℕ} {h : CodeHead} {candidates merits : List ℕ} (hand :
     may-same i hi = ap (λ b. b && ltb (getD state i 0) (length (rowAt r i))) (sym (ap isNone (seat-is i hi) ∙ none-by asked steps i))
 
     -- everybody who may has offered
-    module _ {state' asked' wanted' fresh : List ℕ} {more : ℕ} (o : OffersMade (roundOf file) steps state asked wanted state' asked' wanted' fresh more) where
+    module _ {state' asked' wanted' fresh : List ℕ} {more : ℕ} (o : OffersMade (openedRound file h row) steps state asked wanted state' asked' wanted' fresh more) where
       sweep : (k : ℕ) → k ≤ candidateCount r → (now : List ℕ) × Swept r state k now
       sweep zero l = (state, none-swept (g .running))
       sweep (suc k) l =
@@ -165,13 +168,13 @@ module _ {file : List ℕ} {h : CodeHead} {candidates merits : List ℕ} (hand :
       more-is = o .number ∙ count-ext (candidateCount r) _ _ may-same
 
       -- no more offers than entries
-      going-few : made + more ≤ entryTotal (roundOf file)
+      going-few : made + more ≤ entryTotal (openedRound file h row)
       going-few = omega (arith, g .counted, more-is, swept-sum sound (g .running) swept, state-most (swept .run))
 
       pub going-small : made + more < 2 ^ 64
       going-small = omega (arith, going-few, entries-few)
 
-      pub going-less : more ≢ 0 → entryTotal (roundOf file) - (made + more) < entryTotal (roundOf file) - made
+      pub going-less : more ≢ 0 → entryTotal (openedRound file h row) - (made + more) < entryTotal (openedRound file h row) - made
       going-less d = omega (arith, going-few)
 
       module _ (i : ℕ) (hi : i < candidateCount r) where
@@ -190,7 +193,7 @@ module _ {file : List ℕ} {h : CodeHead} {candidates merits : List ℕ} (hand :
         unfolding mayTry
         new-asked t =
             let short : getD state i 0 < length (rowAt r i) = ltb-true _ _ (and-snd (eqb (getD steps i 0) 0) _ t) in
-            (asked-is ∙ rw t, sound .candidate i hi .entry-from (getD state i 0) short, sound .candidate i hi .entry-to (getD state i 0) short)
+            (asked-is ∙ rw t, sound .candidate i hi .row-sound .entry-from (getD state i 0) short, sound .candidate i hi .row-sound .entry-to (getD state i 0) short)
 
         known-next : LastIn r state' asked' wanted' i
         known-next = test (mayTry r state steps i) new old
@@ -271,8 +274,8 @@ module _ {file : List ℕ} {h : CodeHead} {candidates merits : List ℕ} (hand :
           rw f (step-before i hi j hj e ∙ step-absent r j (madeTo r state j) i off ∙ sym (step-absent r j (madeTo r state' j) i off))))
 
       -- and each institute that got an offer has chosen
-      pub going-next : {steps' : List ℕ} → ChosenAll (roundOf file) asked' wanted' fresh (h .institutes) steps steps'
-          → Going (roundOf file) state' asked' wanted' steps' (made + more)
+      pub going-next : {steps' : List ℕ} → ChosenAll (openedRound file h row) asked' wanted' fresh (h .head .institutes) steps steps'
+          → Going (openedRound file h row) state' asked' wanted' steps' (made + more)
       going-next {steps'} c' = let c : ChosenAll r asked' wanted' fresh (instituteCount r) steps steps' = rw (institutes-many hand) c' in record {
         running = swept .run;
         asked-many = asks-many o;
@@ -296,11 +299,11 @@ module _ {file : List ℕ} {h : CodeHead} {candidates merits : List ℕ} (hand :
         last : state ≡ tried r
         last = ended-tried sound (g .running) ended
 
-        pub going-count : made ≡ offersMade (roundOf file)
+        pub going-count : made ≡ offersMade (openedRound file h row)
         unfolding offersMade
         going-count = g .counted ∙ ap sum last
 
-        pub going-held : HeldIn (seats (roundOf file)) (settled asked' steps) steps
+        pub going-held : HeldIn (seats (openedRound file h row)) (settled asked' steps) steps
         unfolding seats
         going-held = record {
           holders-many = length-tabulate 0 (length steps) _ ∙ g .steps-many ∙ sym (list-length r);

@@ -16,15 +16,16 @@ use Rattle.round.specs.Category.{codeOf}
 use Rattle.round.specs.Lists.{tabulate, count}
 use Rattle.round.specs.Round.{Round}
 use Rattle.round.specs.Places.{candidateAt, entryAt}
-use Rattle.round.specs.Reading.{roundOf}
-use Rattle.round.specs.Access.{CandidateKnown}
+use Rattle.round.specs.declared.opened.Opened.{Opened}
+use Rattle.round.specs.Sound.{SoundRow}
+use Rattle.round.specs.Opened.{openedRound, AtHand}
 use Rattle.round.proofs.Words.{and-snd}
-use Rattle.round.proofs.Sound.{length-candidates, sound}
 use Rattle.choice.proofs.Counting.{clash}
 use Rattle.choice.proofs.Counts.{count-more}
 use Rattle.choice.proofs.Written.{Written, begin, write, keep, tabulated}
 use Rattle.offers.specs.Rows.{rowAt}
 use Rattle.offers.specs.Process.{candidateCount}
+use Rattle.offers.proofs.Sweeps.Known.{candidates-many, round-sound}
 use Rattle.offers.specs.Sweeps.{mayTry, nextEntry, OfferMade, triedNext, askedNext, wantedNext, OffersMade}
 
 -- who has a step may not try; who has none may, while an entry is untried
@@ -51,23 +52,20 @@ set-keeps l a b d z = elim (ℕ-discrete b a) [
   | no e ↦ d (sym (getD-set-other l a b 1 0 e) ∙ z)
 ]
 
--- the best untried entry of a candidate of an accepted file, as the code has read it
-module _ {file starts : List ℕ} {i : ℕ} (known : CandidateKnown file starts i) (tried : List ℕ) (more : getD tried i 0 < length (rowAt (roundOf file) i)) where
-  row-few : getD tried i 0 < 16
-  row-few = omega (arith, sound file (known .accepted) .candidate i (omega (arith, known .below, length-candidates file)) .row-short)
+-- the best untried entry of a candidate, as the code has read it
+module _ {file : List ℕ} {o : Opened} {row starts : List ℕ} (hand : AtHand file o row starts) {i : ℕ} (below : i < o .head .candidates) (tried : List ℕ) (more : getD tried i 0 < length (rowAt (openedRound file o row) i)) where
+  entries : SoundRow (length (openedRound file o row .institutes)) (candidateAt (openedRound file o row) i .category) (rowAt (openedRound file o row) i)
+  entries = round-sound hand .candidate i (omega (arith, candidates-many hand)) .row-sound
 
   pub tried-few : getD tried i 0 + 1 < 256
-  tried-few = omega (arith, row-few)
+  tried-few = omega (arith, entries .row-short)
 
-  next-few : (1 ≤ nextEntry (roundOf file) tried i .institute) × (nextEntry (roundOf file) tried i .institute ≤ 1000)
-  next-few =
-      let s = sound file (known .accepted) in
-      let row = s .candidate i (omega (arith, known .below, length-candidates file)) in
-      (row .entry-from (getD tried i 0) more, omega (arith, row .entry-to (getD tried i 0) more, s .institutes-most))
+  next-few : (1 ≤ nextEntry (openedRound file o row) tried i .institute) × (nextEntry (openedRound file o row) tried i .institute ≤ 1000)
+  next-few = (entries .entry-from (getD tried i 0) more, omega (arith, entries .entry-to (getD tried i 0) more, round-sound hand .institutes-most))
 
-  module _ {k : ℕ} {entry : Entry} (at : k ≡ getD tried i 0) (reads : entry ≡ entryAt (candidateAt (roundOf file) i) k) where
-    entry-is : entry ≡ nextEntry (roundOf file) tried i
-    entry-is = reads ∙ ap (λ k. entryAt (candidateAt (roundOf file) i) k) at
+  module _ {k : ℕ} {entry : Entry} (at : k ≡ getD tried i 0) (reads : entry ≡ entryAt (candidateAt (openedRound file o row) i) k) where
+    entry-is : entry ≡ nextEntry (openedRound file o row) tried i
+    entry-is = reads ∙ ap (λ k. entryAt (candidateAt (openedRound file o row) i) k) at
 
     entry-few : (1 ≤ entry .institute) × (entry .institute ≤ 1000)
     entry-few = rw entry-is next-few
@@ -82,7 +80,7 @@ module _ {file starts : List ℕ} {i : ℕ} (known : CandidateKnown file starts 
     entry-inside fresh e = omega (arith, entry-few)
 
     pub offer-made : {asked wanted fresh : List ℕ} {categories : ℕ} → length fresh ≡ 1000 → categories ≡ 2 ^ codeOf (entry .category)
-        → OfferMade (roundOf file) i tried asked wanted fresh
+        → OfferMade (openedRound file o row) i tried asked wanted fresh
         (set tried i (getD tried i 0 + 1)) (set asked i (entry .institute)) (set wanted i categories) (set fresh (entry .institute - 1) 1)
     offer-made {asked} {wanted} {fresh} many ec = record {
       tried-one = ap (λ x. set tried i x) (add-one (getD tried i 0));

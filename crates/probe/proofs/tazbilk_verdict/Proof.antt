@@ -1,31 +1,20 @@
 -- `probe::tazbilk_verdict` meets its contract: each case of the reader's answer stands for the verdict that it promises.
 -- Assumes nothing.
 use mathlib.Core.Path.{ap, sym, _∙_}
-use native.Mathlib.Omega.{arith}
 use borrow.Author.Needs.{needs}
-use Rattle.round.specs.Records.{formOf}
 use Rattle.round.specs.Outcome.{verdictOf}
-use Rattle.round.proofs.Forms.{institutes-few}
 use Rattle.probe.specs.Probe.{verdictIn}
 use Rattle.probe.proofs.tazbilk_verdict.Statement.{statement}
 use Rattle.probe.proofs.tazbilk_verdict.Tie as tie
 
-candidate-table-requires : tie.Need-candidate-table-requires
-candidate-table-requires c κs = search needs
-
-wide-table-requires : tie.Need-wide-table-requires
-wide-table-requires c κs = search needs
+start-table-requires : tie.Need-start-table-requires
+start-table-requires c κs = search needs
 
 slice-aggregate-read-round : tie.Need-slice-aggregate-read-round
 slice-aggregate-read-round c = search needs
 
-slice-aggregate-read-round-2 : tie.Need-slice-aggregate-read-round-2
-slice-aggregate-read-round-2 c = search needs
-
 read-round-requires : tie.Need-read-round-requires
-read-round-requires c κs =
-    let start : tie.Start = search needs in
-    (search needs, omega (arith, institutes-few (formOf (start .args .file .now))))
+read-round-requires c κs = search needs
 
 enum-told : tie.Need-enum-told
 enum-told c = search needs
@@ -59,10 +48,8 @@ pub tazbilk-verdict-spec : {M : Type 1} → statement M
 tazbilk-verdict-spec =
     tie.close
     (tie.spec
-    candidate-table-requires
-    wide-table-requires
+    start-table-requires
     slice-aggregate-read-round
-    slice-aggregate-read-round-2
     read-round-requires
     enum-told
     element-write-result

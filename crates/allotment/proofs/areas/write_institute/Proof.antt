@@ -7,29 +7,24 @@ use native.Mathlib.Omega.{arith}
 use lib.ListN.{length}
 use lib.Seq.{sets}
 use Rattle.round.specs.Lists.{tabulate, joined}
-use Rattle.round.specs.Reading.{roundOf}
-use Rattle.allotment.specs.Areas.{closingCount, placesTo}
-use Rattle.allotment.proofs.Files.Putting.{closingPieces, count-is, count-few, places-room, closing-put, closings-put}
+use Rattle.allotment.specs.Areas.{closingCount}
+use Rattle.allotment.proofs.Files.Putting.{closingPieces, count-few, places-room, closing-put, closings-put}
 use Rattle.allotment.proofs.areas.write_institute.Statement.{statement}
 use Rattle.allotment.proofs.areas.write_institute.Tie as tie
 
 abbrev Inv-loop : tie.InvT-loop
-Inv-loop file merits holders steps types j listed area₀ at places count k₀ area k =
-    (k ≤ count) × (count ≡ closingCount (roundOf file .stepsListed)) × (count ≤ 12) × (at + 2 * count ≤ length area₀)
-    × (places ≡ placesTo 12 (roundOf file) j) × (length places ≡ 12) × (length area ≡ length area₀)
-    × (area ≡ sets area₀ at (joined (tabulate k (closingPieces (roundOf file) j))))
+Inv-loop noted listed area₀ at count k₀ area k =
+    (k ≤ count) × (count ≡ closingCount listed) × (count ≤ 12) × (at + 2 * count ≤ length area₀)
+    × (length noted ≡ 60) × (length area ≡ length area₀) × (area ≡ sets area₀ at (joined (tabulate k (closingPieces noted))))
 
 abbrev μ-loop : tie.MeasureT-loop
-μ-loop file merits holders steps types j listed area₀ at places count k₀ area k = count - k
-
-closing-places-requires : tie.Need-closing-places-requires Inv-loop μ-loop
-closing-places-requires c κs = search needs
+μ-loop noted listed area₀ at count k₀ area k = count - k
 
 closing-count-requires : tie.Need-closing-count-requires Inv-loop μ-loop
 closing-count-requires c κs = search needs
 
 loop-holds : tie.Need-loop-holds Inv-loop μ-loop
-loop-holds c = (omega arith, search count-is, search count-few, search places-room, search needs, search needs, refl, refl)
+loop-holds c = (omega arith, search needs, search count-few, search places-room, search needs, refl, refl)
 
 mul-write-word : tie.Need-mul-write-word Inv-loop μ-loop
 mul-write-word c = search needs
@@ -40,8 +35,14 @@ add-write-word c = search needs
 mul-write-word-2 : tie.Need-mul-write-word-2 Inv-loop μ-loop
 mul-write-word-2 c = search needs
 
-array-read-write-word : tie.Need-array-read-write-word Inv-loop μ-loop
-array-read-write-word c = search needs
+add-write-word-2 : tie.Need-add-write-word-2 Inv-loop μ-loop
+add-write-word-2 c = omega arith
+
+mul-write-word-3 : tie.Need-mul-write-word-3 Inv-loop μ-loop
+mul-write-word-3 c = omega arith
+
+shared-slice-read-write-word : tie.Need-shared-slice-read-write-word Inv-loop μ-loop
+shared-slice-read-write-word c = omega arith
 
 write-word-requires : tie.Need-write-word-requires Inv-loop μ-loop
 write-word-requires c κs = search needs
@@ -53,7 +54,7 @@ loop-less : tie.Need-loop-less Inv-loop μ-loop
 loop-less c = search needs
 
 loop-again : tie.Need-loop-again Inv-loop μ-loop
-loop-again c = (omega arith, search needs, search needs, search needs, search needs, search needs, search needs, search (needs, closing-put))
+loop-again c = (omega arith, search needs, search needs, search needs, search needs, search needs, search (needs, closing-put))
 
 same-length : tie.Need-same-length Inv-loop μ-loop
 same-length c = search needs
@@ -67,13 +68,14 @@ write-institute-spec =
     (tie.spec
     Inv-loop
     μ-loop
-    closing-places-requires
     closing-count-requires
     loop-holds
     mul-write-word
     add-write-word
     mul-write-word-2
-    array-read-write-word
+    add-write-word-2
+    mul-write-word-3
+    shared-slice-read-write-word
     write-word-requires
     add-k
     loop-less

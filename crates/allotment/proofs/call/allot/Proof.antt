@@ -1,24 +1,47 @@
--- The form of the file says which table of merit lists is made.
+-- A file is read; it is refused, or its round is allotted.
 -- Assumes nothing.
-use mathlib.Core.Path.{sym, _∙_}
 use borrow.Author.Needs.{needs}
+use Rattle.round.proofs.Calls.{read-refused, own-hand, own-opened}
+use Rattle.allotment.proofs.Calling.{file-refused, file-called}
 use Rattle.allotment.proofs.call.allot.Statement.{statement}
 use Rattle.allotment.proofs.call.allot.Tie as tie
 
-form-of-requires : tie.Need-form-of-requires
-form-of-requires c κs = search needs
+start-table-requires : tie.Need-start-table-requires
+start-table-requires c κs = search needs
+
+slice-aggregate-read-round : tie.Need-slice-aggregate-read-round
+slice-aggregate-read-round c = search needs
+
+read-round-requires : tie.Need-read-round-requires
+read-round-requires c κs = search needs
+
+enum-known-got : tie.Need-enum-known-got
+enum-known-got c = search needs
 
 enum-told : tie.Need-enum-told
 enum-told c = search needs
 
-allot-narrow-requires : tie.Need-allot-narrow-requires
-allot-narrow-requires c κs = search (needs, sym, _∙_)
+refused-by-requires : tie.Need-refused-by-requires
+refused-by-requires c κs = search needs
 
-enum-told-2 : tie.Need-enum-told-2
-enum-told-2 c = search needs
+returns : tie.Need-returns
+returns c =
+    let asked : tie.After-read-round = search needs in
+    let told : tie.After-enum-told = search needs in
+    let no : tie.After-refused-by = search needs in
+    file-refused _ (read-refused (asked .read-round .ensures) (no .refused-by .ensures) (told .enum-told .given .1))
 
-allot-wide-requires : tie.Need-allot-wide-requires
-allot-wide-requires c κs = search (needs, sym, _∙_)
+unchanged-requires : tie.Need-unchanged-requires
+unchanged-requires c κs = search needs
+
+slice-aggregate-allot-round : tie.Need-slice-aggregate-allot-round
+slice-aggregate-allot-round c = search needs
+
+slice-aggregate-allot-round-2 : tie.Need-slice-aggregate-allot-round-2
+slice-aggregate-allot-round-2 c = search needs
+
+allot-round-requires : tie.Need-allot-round-requires
+allot-round-requires c κs = search own-hand
 
 same-length : tie.Need-same-length
 same-length c = search needs
@@ -26,30 +49,30 @@ same-length c = search needs
 same-length-2 : tie.Need-same-length-2
 same-length-2 c = search needs
 
-returns : tie.Need-returns
-returns c = search needs
-
-same-length-3 : tie.Need-same-length-3
-same-length-3 c = search needs
-
-same-length-4 : tie.Need-same-length-4
-same-length-4 c = search needs
-
 returns-2 : tie.Need-returns-2
-returns-2 c = search needs
+returns-2 c =
+    let asked : tie.After-read-round = search needs in
+    let told : tie.After-got = search needs in
+    let opened : tie.After-unchanged = search needs in
+    let done : tie.After-allot-round = search needs in
+    let made = opened .unchanged .ensures in
+    file-called _ (own-hand (asked .read-round .ensures) (told .got .given .1) made _) (own-opened (asked .read-round .ensures) (told .got .given .1) made _) (done .allot-round .ensures)
 
 pub allot-spec : {M : Type 1} → statement M
 allot-spec =
     tie.close
     (tie.spec
-    form-of-requires
+    start-table-requires
+    slice-aggregate-read-round
+    read-round-requires
+    enum-known-got
     enum-told
-    allot-narrow-requires
-    enum-told-2
-    allot-wide-requires
+    refused-by-requires
+    returns
+    unchanged-requires
+    slice-aggregate-allot-round
+    slice-aggregate-allot-round-2
+    allot-round-requires
     same-length
     same-length-2
-    returns
-    same-length-3
-    same-length-4
     returns-2)

@@ -50,7 +50,7 @@ slice-aggregate-seat-all-3 : tie.Need-slice-aggregate-seat-all-3
 slice-aggregate-seat-all-3 c = search (needs, places-many)
 
 seat-all-requires : tie.Need-seat-all-requires
-seat-all-requires c κs = (search needs, ((search places-zero, search places-zero, search places-many), search (needs, answer-fits)))
+seat-all-requires c κs = (search needs, ((search places-zero, search places-zero, search places-zero), search (needs, answer-fits)))
 
 mul-clear : tie.Need-mul-clear
 mul-clear c = omega (arith, candidates-few)

@@ -10,10 +10,10 @@ use Rattle.choice.proofs.fill.fill.Statement.{statement}
 use Rattle.choice.proofs.fill.fill.Tie as tie
 
 abbrev Inv-loop : tie.InvT-loop
-Inv-loop free number offers code placed steps₀ used₀ filled₀ p₀ p-end steps used filled p = (p ≤ length steps₀) × (p-end ≡ length steps₀) × Filled number code free offers placed steps₀ used₀ steps used filled p
+Inv-loop free number offers code placed steps₀ used₀ filled₀ closing₀ p₀ p-end steps used filled closing p = (p ≤ length steps₀) × (p-end ≡ length steps₀) × Filled number code free offers placed steps₀ used₀ steps used filled closing p
 
 abbrev μ-loop : tie.MeasureT-loop
-μ-loop free number offers code placed steps₀ used₀ filled₀ p₀ p-end steps used filled p = length steps₀ - p
+μ-loop free number offers code placed steps₀ used₀ filled₀ closing₀ p₀ p-end steps used filled closing p = length steps₀ - p
 
 loop-holds : tie.Need-loop-holds Inv-loop μ-loop
 loop-holds c = (omega arith, refl, none-filled _ _ _ _ _ _ _)
@@ -32,6 +32,9 @@ slice-write-used c = omega arith
 
 considers-requires : tie.Need-considers-requires Inv-loop μ-loop
 considers-requires c κs = (search needs, omega arith, omega arith)
+
+add-closing : tie.Need-add-closing Inv-loop μ-loop
+add-closing c = search needs
 
 slice-write-steps-2 : tie.Need-slice-write-steps-2 Inv-loop μ-loop
 slice-write-steps-2 c = search needs
@@ -72,6 +75,7 @@ fill-spec =
     considers-requires
     slice-write-steps-2
     add-filled
+    add-closing
     add-p
     loop-less
     loop-again

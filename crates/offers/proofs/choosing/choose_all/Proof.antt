@@ -4,18 +4,18 @@ use mathlib.Core.Path.{_≡_, refl}
 use mathlib.Core.Logic.{⊎-elim}
 use native.Mathlib.Omega.{arith}
 use borrow.Author.Needs.{needs}
-use Rattle.round.specs.Reading.{roundOf}
+use Rattle.round.specs.Opened.{openedRound}
 use Rattle.offers.proofs.Sweeps.Known.{institutes-few}
 use Rattle.offers.proofs.Sweeps.Choices.{Choosing, none-chosen, one-chosen, one-spared, all-chosen}
 use Rattle.offers.proofs.choosing.choose_all.Statement.{statement}
 use Rattle.offers.proofs.choosing.choose_all.Tie as tie
 
 abbrev Inv-loop : tie.InvT-loop
-Inv-loop file h candidates merits asked wanted fresh₀ steps₀ j₀ j-end fresh steps j =
-    (j ≤ h .institutes) × (j-end ≡ h .institutes) × Choosing (roundOf file) asked wanted fresh₀ j steps₀ steps fresh
+Inv-loop file o row starts asked wanted fresh₀ steps₀ j₀ j-end fresh steps j =
+    (j ≤ o .head .institutes) × (j-end ≡ o .head .institutes) × Choosing (openedRound file o row) asked wanted fresh₀ j steps₀ steps fresh
 
 abbrev μ-loop : tie.MeasureT-loop
-μ-loop file h candidates merits asked wanted fresh₀ steps₀ j₀ j-end fresh steps j = h .institutes - j
+μ-loop file o row starts asked wanted fresh₀ steps₀ j₀ j-end fresh steps j = o .head .institutes - j
 
 loop-holds : tie.Need-loop-holds Inv-loop μ-loop
 loop-holds c = (omega arith, refl, search none-chosen)

@@ -1,6 +1,6 @@
 -- `offers::choosing::choose_anew` meets its contract: the steps chosen are put into the table. Assumes nothing.
 use Prim.Native.Nat.{ℕ, _≤_}
-use mathlib.Core.Path.{_≡_, sym, _∙_}
+use mathlib.Core.Path.{_≡_, refl, sym, _∙_}
 use mathlib.Core.List.{List}
 use native.Mathlib.Omega.{arith}
 use lib.ListN.{length, take}
@@ -8,6 +8,7 @@ use lib.Seq.{length-take-le}
 use Rattle.offers.proofs.Sweeps.Known.{zeros-room, candidates-many}
 use Rattle.offers.proofs.Sweeps.Choosing.{who-apart, steps-put}
 use borrow.Author.Needs.{needs}
+use Rattle.choice.proofs.Counting.{clash}
 use Rattle.offers.proofs.choosing.choose_anew.Statement.{statement}
 use Rattle.offers.proofs.choosing.choose_anew.Tie as tie
 
@@ -52,20 +53,26 @@ slice-aggregate-choose-listed-2 c = search needs
 slice-aggregate-choose-listed-3 : tie.Need-slice-aggregate-choose-listed-3
 slice-aggregate-choose-listed-3 c = search needs
 
+slice-aggregate-choose-listed-4 : tie.Need-slice-aggregate-choose-listed-4
+slice-aggregate-choose-listed-4 c = search needs
+
+slice-aggregate-choose-listed-5 : tie.Need-slice-aggregate-choose-listed-5
+slice-aggregate-choose-listed-5 c = search needs
+
 choose-listed-requires : tie.Need-choose-listed-requires
-choose-listed-requires c κs = (search needs, (search needs, ((search needs, search needs), (search zeros-room, search zeros-room, search zeros-room))))
+choose-listed-requires c κs = (search needs, (search needs, ((search needs, search needs), ((search zeros-room, search zeros-room, search zeros-room), (λ f. clash f refl, λ f. clash f refl)))))
 
 array-share-prefix-who : tie.Need-array-share-prefix-who
 array-share-prefix-who c = search needs
 
 slice-aggregate-scatter : tie.Need-slice-aggregate-scatter
-slice-aggregate-scatter c = sym (who-long (c .before .before .before .before))
+slice-aggregate-scatter c = let l : tie.After-choose-listed = search needs in sym (who-long l)
 
 array-share-prefix-chosen : tie.Need-array-share-prefix-chosen
 array-share-prefix-chosen c = search needs
 
 slice-aggregate-scatter-2 : tie.Need-slice-aggregate-scatter-2
-slice-aggregate-scatter-2 c = sym (chosen-long (c .before .before .before .before .before))
+slice-aggregate-scatter-2 c = let l : tie.After-choose-listed = search needs in sym (chosen-long l)
 
 scatter-requires : tie.Need-scatter-requires
 scatter-requires c κs =
@@ -92,6 +99,8 @@ choose-anew-spec =
     slice-aggregate-choose-listed
     slice-aggregate-choose-listed-2
     slice-aggregate-choose-listed-3
+    slice-aggregate-choose-listed-4
+    slice-aggregate-choose-listed-5
     choose-listed-requires
     array-share-prefix-who
     slice-aggregate-scatter

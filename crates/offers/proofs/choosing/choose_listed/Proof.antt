@@ -6,27 +6,37 @@ use native.Mathlib.Omega.{arith}
 use lib.ListN.{length, List·getD-append}
 use lib.Seq.{length-take-le}
 use denote.Ref.{now}
-use Rattle.offers.proofs.Sweeps.Known.{zeros-room, candidates-are, knows-merit}
+use Rattle.offers.proofs.Sweeps.Known.{zeros-room}
 use Rattle.offers.proofs.Sweeps.Choosing.{listed-few, front-fits, listed-chosen}
 use borrow.Author.Needs.{needs}
 use Rattle.offers.proofs.choosing.choose_listed.Statement.{statement}
 use Rattle.offers.proofs.choosing.choose_listed.Tie as tie
 
--- where the function begins, where its tables are made, where the rules are known, where the offers are listed, and where the choice is prepared
-abbrev begun : tie.After-shared-slice-known5 → tie.Start
-begun c = c .before .before .before .before .before
+-- where the function begins, where its slices are known, where its tables are made, where the rules are known, where the offers are listed, and where the
+-- choice is prepared
+abbrev begun : tie.After-shared-slice-known3 → tie.Start
+begun c = c .before .before .before
 
-abbrev made : tie.After-gather → tie.After-zeros2
+abbrev lent : tie.After-slice-known3 → tie.After-shared-slice-known3
+lent c = c .before .before .before .before .before
+
+abbrev made : tie.After-gather → tie.After-rule-table
 made c = c .before .before .before .before .before
 
+abbrev from : tie.After-rule-table → tie.Start
+from c = begun (lent (c .before .before .before .before .before))
+
 abbrev start : tie.After-gather → tie.Start
-start c = begun (made c .before .before .before .before .before)
+start c = from (made c)
 
 abbrev ruled : tie.After-rules3 → tie.After-institute-body
 ruled c = c .before .before .before .before
 
+abbrev behind : tie.After-institute-body → tie.After-marks2
+behind c = c .before .before .before .before .before
+
 abbrev listed : tie.After-rules3 → tie.After-gather
-listed c = ruled c .before .before .before .before .before
+listed c = behind (ruled c) .before .before .before
 
 abbrev ready : tie.After-choose-arg2 → tie.After-rules3
 ready c = c .before .before .before .before
@@ -37,13 +47,13 @@ module _ (c : tie.After-gather) where
   k = c .gather .result
 
   abbrev who : List ℕ
-  who = c .gather .last .1 .1 .1 .1 .1 .1 .0
+  who = c .gather .last .1 .1 .1 .1 .1 .1 .1 .1 .0
 
   abbrev marks : List ℕ
-  marks = c .gather .last .1 .1 .1 .1 .1 .1 .1 .0
+  marks = c .gather .last .1 .1 .1 .1 .1 .1 .1 .1 .1 .0
 
   abbrev offers : List ℕ
-  offers = c .gather .last .1 .1 .1 .1 .1 .1 .1 .1 .0
+  offers = c .gather .last .1 .1 .1 .1 .1 .1 .1 .1 .1 .1 .0
 
   abbrev chosen : List ℕ
   chosen = now (start c .args .chosen)
@@ -69,7 +79,7 @@ module _ (c : tie.After-gather) where
 -- what was chosen stands at the front of both further tables
 module _ (c : tie.After-choose) where
   abbrev g : tie.After-gather
-  g = listed (ready (c .before))
+  g = listed (ready (c .before .before))
 
   abbrev found : List ℕ
   found = c .choose .last .1 .1 .1 .1 .1 .1 .0
@@ -99,7 +109,7 @@ slice-aggregate-gather-2 : tie.Need-slice-aggregate-gather-2
 slice-aggregate-gather-2 c = search needs
 
 gather-requires : tie.Need-gather-requires
-gather-requires c κs = (search knows-merit, (search needs, ((omega (arith, candidates-are), omega (arith, candidates-are)), (search needs, search zeros-room, search zeros-room))))
+gather-requires c κs = (search needs, (search needs, ((search needs, search needs), (search needs, search zeros-room, search zeros-room, λ f. from (c .before .before .before .before) .pre .1 .1 .1 .1 .0 f))))
 
 institute-body-requires : tie.Need-institute-body-requires
 institute-body-requires c κs = search needs
@@ -139,15 +149,18 @@ slice-aggregate-choose-5 c = sym (length-take-le _ _ (used-fits (listed (ready c
 
 choose-requires : tie.Need-choose-requires
 choose-requires c κs =
-    let g = listed (ready c) in
+    let g = listed (ready (c .before)) in
     let each = length-take-le (k g) (marks g) (marks-fits g) in (
       search needs,
-      record {
-        few = omega (arith, each, few g);
-        offers-each = length-take-le _ _ (offers-fits g) ∙ sym each;
-        steps-each = length-take-le _ _ (chosen-fits g) ∙ sym each;
-        used-each = length-take-le _ _ (used-fits g) ∙ sym each;
-      },
+      (
+        record {
+          few = omega (arith, each, few g);
+          offers-each = length-take-le _ _ (offers-fits g) ∙ sym each;
+          steps-each = length-take-le _ _ (chosen-fits g) ∙ sym each;
+          used-each = length-take-le _ _ (used-fits g) ∙ sym each;
+        },
+        λ f. start g .pre .1 .1 .1 .1 .1 f,
+      ),
     )
 
 same-length : tie.Need-same-length
@@ -159,10 +172,16 @@ same-length-2 c = search needs
 same-length-3 : tie.Need-same-length-3
 same-length-3 c = search needs
 
+same-length-4 : tie.Need-same-length-4
+same-length-4 c = search needs
+
+same-length-5 : tie.Need-same-length-5
+same-length-5 c = search needs
+
 returns : tie.Need-returns
 returns c =
     let chose : tie.After-choose = search needs in
-    let prepared = ready (chose .before) in
+    let prepared = ready (chose .before .before) in
     let pre = start (g chose) .pre in
     listed-chosen (pre .0) (pre .1 .0) _ _ (g chose .gather .ensures) (marks-fits (g chose)) (chose .choose .ensures)
     (prepared .before .before .rules-of .ensures .rules-of ∙ ruled prepared .institute-body .ensures .steps-of)
@@ -195,4 +214,6 @@ choose-listed-spec =
     same-length
     same-length-2
     same-length-3
+    same-length-4
+    same-length-5
     returns)

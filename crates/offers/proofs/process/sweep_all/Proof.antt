@@ -5,22 +5,21 @@ use native.Mathlib.Omega.{arith}
 use lib.ListN.{length}
 use borrow.Author.Needs.{needs}
 use Rattle.choice.proofs.Steps.{sized}
-use Rattle.round.specs.Reading.{roundOf}
+use Rattle.round.specs.Opened.{openedRound, AtHand}
 use Rattle.offers.specs.Process.{entryTotal}
-use Rattle.offers.specs.Held.{AtHand}
-use Rattle.offers.proofs.Sweeps.Known.{candidates-many, head-many}
+use Rattle.offers.proofs.Sweeps.Known.{candidates-many}
 use Rattle.offers.proofs.Sweeps.Going.{Going, going-start, going-small, going-less, tried-many, asks-many, wants-many, going-next, going-count, going-held}
 use Rattle.offers.proofs.process.sweep_all.Statement.{statement}
 use Rattle.offers.proofs.process.sweep_all.Tie as tie
 
 abbrev Inv-loop : tie.InvT-loop
-Inv-loop file h candidates merits tried₀ asked₀ wanted₀ steps₀ fresh₀ count₀ tried asked wanted steps fresh count =
-    Going (roundOf file) tried asked wanted steps count × (length fresh ≡ 1000) × AtHand file h candidates merits
-    × (length tried₀ ≡ h .candidates) × (length asked₀ ≡ h .candidates) × (length wanted₀ ≡ h .candidates) × (length steps₀ ≡ h .candidates)
+Inv-loop file o row starts tried₀ asked₀ wanted₀ steps₀ fresh₀ count₀ tried asked wanted steps fresh count =
+    Going (openedRound file o row) tried asked wanted steps count × (length fresh ≡ 1000) × AtHand file o row starts
+    × (length tried₀ ≡ o .head .candidates) × (length asked₀ ≡ o .head .candidates) × (length wanted₀ ≡ o .head .candidates) × (length steps₀ ≡ o .head .candidates)
 
 abbrev μ-loop : tie.MeasureT-loop
-μ-loop file h candidates merits tried₀ asked₀ wanted₀ steps₀ fresh₀ count₀ tried asked wanted steps fresh count =
-    entryTotal (roundOf file) - count
+μ-loop file o row starts tried₀ asked₀ wanted₀ steps₀ fresh₀ count₀ tried asked wanted steps fresh count =
+    entryTotal (openedRound file o row) - count
 
 none-fresh-requires : tie.Need-none-fresh-requires Inv-loop μ-loop
 none-fresh-requires c κs = search needs
@@ -32,7 +31,7 @@ slice-aggregate-offer-all : tie.Need-slice-aggregate-offer-all Inv-loop μ-loop
 slice-aggregate-offer-all c = search needs
 
 offer-all-requires : tie.Need-offer-all-requires Inv-loop μ-loop
-offer-all-requires c κs = (search needs, (search needs, (search head-many, search head-many, search head-many, search head-many, search needs)))
+offer-all-requires c κs = (search needs, (omega (arith, candidates-many), omega (arith, candidates-many), omega (arith, candidates-many), omega (arith, candidates-many), search needs))
 
 same-length : tie.Need-same-length Inv-loop μ-loop
 same-length c = omega (arith, tried-many, candidates-many)

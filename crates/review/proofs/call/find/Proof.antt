@@ -2,41 +2,27 @@
 use mathlib.Core.Path.{_≡_, sym, _∙_}
 use native.Mathlib.Omega.{arith}
 use denote.Ref.{now}
-use Rattle.round.specs.Records.{formOf}
-use Rattle.round.specs.Reading.{roundOf}
+use Rattle.round.specs.Opened.{openedRound}
 use Rattle.offers.specs.Process.{candidateCount}
-use Rattle.offers.proofs.Sweeps.Known.{form-is, candidates-few, candidates-many}
+use Rattle.offers.proofs.Sweeps.Known.{candidates-few, candidates-many}
 use Rattle.review.proofs.SeatsReading.{asked-long, list-long}
 use Rattle.review.proofs.FirstFinding.{wrong-found, none-wrong}
 use borrow.Author.Needs.{needs}
 use Rattle.review.proofs.call.find.Statement.{statement}
 use Rattle.review.proofs.call.find.Tie as tie
 
--- where the function begins, seen from where its bytes are known, and where the seats are read and the steps given, seen from what follows
-abbrev begun : tie.After-shared-slice-known4 → tie.Start
-begun c = c .before .before .before .before
-
-abbrev bytes : tie.After-read-seats-arg → tie.After-shared-slice-known4
-bytes c = c .before .before .before .before
-
-abbrev read-by : tie.After-give-steps-arg → tie.After-read-seats
-read-by c = c .before .before .before .before .before
-
-abbrev gave : tie.After-first-wrong → tie.After-give-steps
-gave c = c .before .before .before .before .before
-
 -- what is known where the first wrong seat is
 module _ (c : tie.After-first-wrong) where
+  abbrev gave : tie.After-give-steps
+  gave = search needs
+
   abbrev read : tie.After-read-seats
-  read = read-by (gave c .before .before .before)
+  read = search needs
 
   abbrev start : tie.Start
-  start = begun (bytes (read .before .before))
+  start = search needs
 
-  form : formOf (now (start .args .file)) ≡ start .args .h .form
-  form = form-is (start .pre .0 .hand)
-
-  many : candidateCount (roundOf (now (start .args .file))) ≡ start .args .h .candidates
+  many : candidateCount (openedRound (now (start .args .file)) (start .args .o) (now (start .args .row))) ≡ start .args .o .head .candidates
   many = candidates-many (start .pre .0 .hand)
 
 read-seats-requires : tie.Need-read-seats-requires
@@ -55,8 +41,8 @@ first-wrong-requires c κs =
       list-long (start .pre .0) listed,
     )
 
-add-t27 : tie.Need-add-t27
-add-t27 c = search needs
+add-t28 : tie.Need-add-t28
+add-t28 c = search needs
 
 same-length : tie.Need-same-length
 same-length c = search needs
@@ -70,7 +56,7 @@ same-length-3 c = search needs
 returns : tie.Need-returns
 returns c =
     let known : tie.After-first-wrong = search needs in
-    wrong-found _ _ (read known .read-seats .ensures) (gave known .give-steps .ensures) (form known) (known .first-wrong .ensures)
+    wrong-found _ _ _ (read known .read-seats .ensures) (gave known .give-steps .ensures) (known .first-wrong .ensures)
     (omega (arith, many known))
 
 find-entry-requires : tie.Need-find-entry-requires
@@ -91,7 +77,7 @@ returns-2 : tie.Need-returns-2
 returns-2 c =
     let said : tie.After-find-entry = search needs in
     let known : tie.After-first-wrong = search needs in
-    none-wrong _ _ (read known .read-seats .ensures) (gave known .give-steps .ensures) (form known) (known .first-wrong .ensures)
+    none-wrong _ _ _ (read known .read-seats .ensures) (gave known .give-steps .ensures) (known .first-wrong .ensures)
     (omega (arith, many known)) (said .find-entry .ensures)
 
 pub find-spec : {M : Type 1} → statement M
@@ -101,7 +87,7 @@ find-spec =
     read-seats-requires
     give-steps-requires
     first-wrong-requires
-    add-t27
+    add-t28
     same-length
     same-length-2
     same-length-3

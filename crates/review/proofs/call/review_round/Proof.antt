@@ -1,6 +1,7 @@
--- Questions 15 and 14, and then what is found on a list for a round that was read.
+-- Questions 15 and 14, and then what is found on a list for the round at hand.
 -- Assumes nothing.
 use borrow.Author.Needs.{needs}
+use mathlib.Core.Path.{refl}
 use native.Mathlib.Omega.{arith}
 use Rattle.offers.proofs.Sweeps.Known.{candidates-few, places, places-many, places-zero}
 use Rattle.review.proofs.Calling.{other-size, under-review, work-small, all-well}
@@ -11,13 +12,13 @@ seats-size-requires : tie.Need-seats-size-requires
 seats-size-requires c κs = search (needs, candidates-few)
 
 returns : tie.Need-returns
-returns c = search (needs, other-size)
+returns c = search other-size
 
 mul-if2 : tie.Need-mul-if2
 mul-if2 c = omega (arith, candidates-few)
 
 returns-2 : tie.Need-returns-2
-returns-2 c = search (needs, work-small)
+returns-2 c = search work-small
 
 nobody-requires : tie.Need-nobody-requires
 nobody-requires c κs = search needs
@@ -59,7 +60,12 @@ same-length : tie.Need-same-length
 same-length c = search needs
 
 returns-3 : tie.Need-returns-3
-returns-3 c = search (needs, all-well)
+returns-3 c =
+    let start : tie.Start = search needs in
+    let enough : tie.Else2 = search needs in
+    let reviewed : tie.After-find = search needs in
+    let cleared : tie.After-clear = search needs in
+    all-well (start .pre) (enough .before .before .seats-size .ensures) _ (enough .before .if1 .left) _ (enough .if2 .left) (reviewed .find .ensures) (cleared .clear .ensures)
 
 pub review-round-spec : {M : Type 1} → statement M
 review-round-spec =

@@ -3,17 +3,20 @@ use Prim.Native.Nat.{_-_, _≤_}
 use mathlib.Core.Path.{_≡_, refl, _∙_, ap}
 use lib.ListN.{length}
 use borrow.Author.Needs.{needs}
+use Rattle.round.specs.Opened.{openedRound}
+use Rattle.review.specs.Outcome.{listOf}
 use Rattle.review.proofs.FirstFound.{PassedOver, none-passed, one-failed, found, none-found}
 use Rattle.review.proofs.EntriesAbove.{takesAt, read-still}
 use Rattle.review.proofs.entries.best_entry.Statement.{statement}
 use Rattle.review.proofs.entries.best_entry.Tie as tie
 
 abbrev Inv-loop : tie.InvT-loop
-Inv-loop file h candidates merits list asked₀ wanted₀ steps₀ i above k₀ asked wanted steps k =
-    (k ≤ above) × (asked ≡ asked₀) × (wanted ≡ wanted₀) × (length steps ≡ h .candidates) × PassedOver (takesAt file list i) k
+Inv-loop file o row starts list asked₀ wanted₀ steps₀ i above k₀ asked wanted steps k =
+    (k ≤ above) × (asked ≡ asked₀) × (wanted ≡ wanted₀) × (length steps ≡ o .head .candidates)
+    × PassedOver (takesAt (openedRound file o row) (listOf (o .head .form) (openedRound file o row) list) i) k
 
 abbrev μ-loop : tie.MeasureT-loop
-μ-loop file h candidates merits list asked₀ wanted₀ steps₀ i above k₀ asked wanted steps k = above - k
+μ-loop file o row starts list asked₀ wanted₀ steps₀ i above k₀ asked wanted steps k = above - k
 
 loop-holds : tie.Need-loop-holds Inv-loop μ-loop
 loop-holds c = (search needs, refl, refl, search needs, search none-passed)

@@ -4,23 +4,22 @@ use mathlib.Core.Path.{_≡_, refl, _∙_, ap}
 use native.Mathlib.Omega.{arith}
 use lib.ListN.{length}
 use borrow.Author.Needs.{needs}
-use Rattle.round.specs.Reading.{roundOf}
+use Rattle.round.specs.Opened.{openedRound}
 use Rattle.offers.proofs.Sweeps.Known.{candidates-few, candidates-many}
 use Rattle.review.specs.Finding.{better}
-use Rattle.review.specs.Outcome.{listFor}
+use Rattle.review.specs.Outcome.{listOf}
 use Rattle.review.proofs.FirstFound.{PassedOver, none-passed}
-use Rattle.review.proofs.SeatsRanked.{candidate-known}
 use Rattle.review.proofs.EntriesAbove.{read-still, above-fits, place-fits, none-above, entry-found, nothing-found}
 use Rattle.review.proofs.entries.find_entry.Statement.{statement}
 use Rattle.review.proofs.entries.find_entry.Tie as tie
 
 abbrev Inv-loop : tie.InvT-loop
-Inv-loop file h candidates merits list asked₀ wanted₀ steps₀ i₀ i-end asked wanted steps i =
-    (i ≤ i-end) × (i-end ≡ h .candidates) × (asked ≡ asked₀) × (wanted ≡ wanted₀) × (length steps ≡ h .candidates)
-    × PassedOver (better (roundOf file) (listFor file list)) i
+Inv-loop file o row starts list asked₀ wanted₀ steps₀ i₀ i-end asked wanted steps i =
+    (i ≤ i-end) × (i-end ≡ o .head .candidates) × (asked ≡ asked₀) × (wanted ≡ wanted₀) × (length steps ≡ o .head .candidates)
+    × PassedOver (better (openedRound file o row) (listOf (o .head .form) (openedRound file o row) list)) i
 
 abbrev μ-loop : tie.MeasureT-loop
-μ-loop file h candidates merits list asked₀ wanted₀ steps₀ i₀ i-end asked wanted steps i = i-end - i
+μ-loop file o row starts list asked₀ wanted₀ steps₀ i₀ i-end asked wanted steps i = i-end - i
 
 loop-holds : tie.Need-loop-holds Inv-loop μ-loop
 loop-holds c = (search needs, refl, refl, refl, search needs, search none-passed)
@@ -33,13 +32,14 @@ best-entry-requires c κs = (search needs, (search read-still, (search needs, se
 
 row-entry-requires : tie.Need-row-entry-requires Inv-loop μ-loop
 row-entry-requires c κs =
-    let start : tie.Start Inv-loop μ-loop = search needs in
-    let best : tie.After-best-entry Inv-loop μ-loop = search needs in
     let all : tie.After-entries-above Inv-loop μ-loop = search needs in
-    (candidate-known (start .pre .0) (omega arith), place-fits _ _ _ (all .entries-above .ensures) (omega arith))
+    (search needs, (search needs, place-fits _ _ _ (all .entries-above .ensures) (omega arith)))
 
 add-t21 : tie.Need-add-t21 Inv-loop μ-loop
-add-t21 c = omega (arith, candidates-few)
+add-t21 c =
+    let all : tie.After-entries-above Inv-loop μ-loop = search needs in
+    let at : tie.At-loop Inv-loop μ-loop = search needs in
+    omega (arith, candidates-few)
 
 same-length : tie.Need-same-length Inv-loop μ-loop
 same-length c =
@@ -54,15 +54,19 @@ same-length-2 c =
     ap length (best .best-entry .ensures .2 ∙ at .loop .inv .3)
 
 same-length-3 : tie.Need-same-length-3 Inv-loop μ-loop
-same-length-3 c = search needs
+same-length-3 c =
+    let start : tie.Start Inv-loop μ-loop = search needs in
+    let all : tie.After-entries-above Inv-loop μ-loop = search needs in
+    let at : tie.At-loop Inv-loop μ-loop = search needs in
+    omega (arith, start .pre .1 .1, at .loop .inv .4)
 
 returns : tie.Need-returns Inv-loop μ-loop
 returns c =
     let start : tie.Start Inv-loop μ-loop = search needs in
-    let at : tie.At-loop Inv-loop μ-loop = search needs in
+    let read : tie.After-row-entry Inv-loop μ-loop = search needs in
     let best : tie.After-best-entry Inv-loop μ-loop = search needs in
     let all : tie.After-entries-above Inv-loop μ-loop = search needs in
-    let read : tie.After-row-entry Inv-loop μ-loop = search needs in
+    let at : tie.At-loop Inv-loop μ-loop = search needs in
     entry-found _ _ (at .loop .inv .5) (all .entries-above .ensures) (best .best-entry .ensures .0)
     (omega (arith, candidates-many (start .pre .0 .hand))) (omega arith) (read .row-entry .ensures)
 

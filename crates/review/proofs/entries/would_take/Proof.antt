@@ -1,14 +1,13 @@
 -- `review::entries::would_take` meets its contract: the step that is given where the entry is added takes it or not. Assumes nothing.
 use native.Mathlib.Omega.{arith}
 use Rattle.offers.proofs.Sweeps.Known.{candidates-many}
-use Rattle.review.proofs.SeatsRanked.{candidate-known}
-use Rattle.review.proofs.EntriesAbove.{institute-least, institute-inside, institute-known, step-numbered, would-be-taken}
+use Rattle.review.proofs.EntriesAbove.{institute-least, institute-inside, step-numbered, would-be-taken}
 use borrow.Author.Needs.{needs}
 use Rattle.review.proofs.entries.would_take.Statement.{statement}
 use Rattle.review.proofs.entries.would_take.Tie as tie
 
 row-entry-requires : tie.Need-row-entry-requires
-row-entry-requires c κs = (search candidate-known, search needs)
+row-entry-requires c κs = search needs
 
 sub-step-with : tie.Need-sub-step-with
 sub-step-with c = search institute-least
@@ -24,7 +23,17 @@ wide-requires : tie.Need-wide-requires
 wide-requires c κs = search needs
 
 takes-requires : tie.Need-takes-requires
-takes-requires c κs = (search institute-known, search step-numbered)
+takes-requires c κs =
+    let start : tie.Start = search needs in
+    let read : tie.After-row-entry = search needs in
+    let given : tie.After-step-with = search needs in
+    let entry = read .row-entry .ensures in (
+      search needs,
+      (
+        institute-inside (start .pre .0 .hand) (start .pre .1 .1 .0) (start .pre .1 .1 .1) entry,
+        step-numbered (start .pre .0 .hand) (start .pre .1 .1 .0) (start .pre .1 .1 .1) entry _ (given .step-with .ensures .0) (c .wide .ensures .0),
+      ),
+    )
 
 same-length : tie.Need-same-length
 same-length c = search needs
@@ -41,7 +50,7 @@ returns c =
     let read : tie.After-row-entry = search needs in
     let given : tie.After-step-with = search needs in
     let numbered : tie.After-wide = search needs in (
-      would-be-taken (start .pre .0) (start .pre .1 .1 .0) (start .pre .1 .1 .1) (read .row-entry .ensures) (start .pre .1 .0) (given .step-with .ensures .0) (numbered .wide .ensures .0) (c .takes .ensures),
+      would-be-taken (start .pre .0 .hand) (start .pre .1 .1 .0) (start .pre .1 .1 .1) (read .row-entry .ensures) (start .pre .1 .0) (given .step-with .ensures .0) (numbered .wide .ensures .0) (c .takes .ensures),
       search needs,
       search needs,
     )

@@ -1,5 +1,5 @@
 -- `review::seats::in_row` meets its contract. Assumes nothing.
-use Rattle.review.proofs.SeatsRanked.{candidate-known, in-row-by}
+use Rattle.review.proofs.SeatsRanked.{in-row-by}
 use borrow.Author.Needs.{needs}
 use Rattle.review.proofs.seats.in_row.Statement.{statement}
 use Rattle.review.proofs.seats.in_row.Tie as tie
@@ -8,7 +8,7 @@ entries-above-requires : tie.Need-entries-above-requires
 entries-above-requires c κs = search needs
 
 row-length-requires : tie.Need-row-length-requires
-row-length-requires c κs = search candidate-known
+row-length-requires c κs = search needs
 
 returns : tie.Need-returns
 returns c = search in-row-by

@@ -3,7 +3,7 @@ use Prim.Native.Nat.{_-_, _≤_}
 use mathlib.Core.Path.{_≡_}
 use native.Mathlib.Omega.{arith}
 use lib.ListN.{length}
-use Rattle.round.specs.Reading.{roundOf}
+use Rattle.round.specs.Opened.{openedRound}
 use Rattle.round.specs.Places.{candidateAt, entryAt}
 use Rattle.offers.specs.Rows.{rowAt, sameEntry}
 use Rattle.review.proofs.FirstFound.{PassedOver, none-passed, one-failed, rank-found, rank-nowhere}
@@ -12,12 +12,12 @@ use Rattle.review.proofs.seats.rank_in.Statement.{statement}
 use Rattle.review.proofs.seats.rank_in.Tie as tie
 
 abbrev Inv-loop : tie.InvT-loop
-Inv-loop file candidates i number category size k₀ k =
-    (k ≤ size) × (size ≡ length (rowAt (roundOf file) i))
-    × PassedOver (λ k. sameEntry (entryAt (candidateAt (roundOf file) i) k) (record { institute = number; category = category })) k
+Inv-loop file o row starts i number category size k₀ k =
+    (k ≤ size) × (size ≡ length (rowAt (openedRound file o row) i))
+    × PassedOver (λ k. sameEntry (entryAt (candidateAt (openedRound file o row) i) k) (record { institute = number; category = category })) k
 
 abbrev μ-loop : tie.MeasureT-loop
-μ-loop file candidates i number category size k₀ k = size - k
+μ-loop file o row starts i number category size k₀ k = size - k
 
 row-length-requires : tie.Need-row-length-requires Inv-loop μ-loop
 row-length-requires c κs = search needs
@@ -26,7 +26,7 @@ loop-holds : tie.Need-loop-holds Inv-loop μ-loop
 loop-holds c = (omega arith, search needs, none-passed _)
 
 is-entry-requires : tie.Need-is-entry-requires Inv-loop μ-loop
-is-entry-requires c κs = (search needs, omega arith)
+is-entry-requires c κs = (search needs, (search needs, omega arith))
 
 returns : tie.Need-returns Inv-loop μ-loop
 returns c = search rank-found

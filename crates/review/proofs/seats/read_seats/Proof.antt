@@ -4,8 +4,8 @@ use mathlib.Core.Path.{_≡_}
 use mathlib.Core.Logic.{⊎-elim}
 use native.Mathlib.Omega.{arith}
 use Rattle.choice.proofs.Steps.{sized}
-use Rattle.round.specs.Reading.{roundOf}
-use Rattle.review.specs.Outcome.{listFor}
+use Rattle.round.specs.Opened.{openedRound}
+use Rattle.review.specs.Outcome.{listOf}
 use Rattle.review.specs.Tables.{SeatsRead}
 use Rattle.review.proofs.SeatsReading.{none-read, one-skipped, one-read, row-institute-least, row-step-known, asked-long, wanted-long, all-read}
 use Rattle.review.proofs.SeatsRanked.{bytes-inside}
@@ -14,11 +14,11 @@ use Rattle.review.proofs.seats.read_seats.Statement.{statement}
 use Rattle.review.proofs.seats.read_seats.Tie as tie
 
 abbrev Inv-loop : tie.InvT-loop
-Inv-loop file h candidates merits list asked₀ wanted₀ form i₀ i-end asked wanted i =
-    (i ≤ i-end) × (i-end ≡ h .candidates) × SeatsRead (roundOf file) (listFor file list) i asked wanted
+Inv-loop file o row starts list asked₀ wanted₀ form i₀ i-end asked wanted i =
+    (i ≤ i-end) × (i-end ≡ o .head .candidates) × SeatsRead (openedRound file o row) (listOf (o .head .form) (openedRound file o row) list) i asked wanted
 
 abbrev μ-loop : tie.MeasureT-loop
-μ-loop file h candidates merits list asked₀ wanted₀ form i₀ i-end asked wanted i = i-end - i
+μ-loop file o row starts list asked₀ wanted₀ form i₀ i-end asked wanted i = i-end - i
 
 loop-holds : tie.Need-loop-holds Inv-loop μ-loop
 loop-holds c = (omega arith, search sized, search none-read)
@@ -48,7 +48,7 @@ step-category-requires : tie.Need-step-category-requires Inv-loop μ-loop
 step-category-requires c κs =
     let start : tie.Start Inv-loop μ-loop = search needs in
     let tested : tie.Then1 Inv-loop μ-loop = search needs in
-    row-step-known (start .pre .0) (omega arith) (tested .before .in-row .ensures) (c .before .institute-at .ensures .0) (tested .if1 .taken) (c .step-at .ensures .0)
+    (start .pre .0 .hand, row-step-known (start .pre .0) (omega arith) (tested .before .in-row .ensures) (c .before .institute-at .ensures .0) (tested .if1 .taken) (c .step-at .ensures .0))
 
 cast-asked : tie.Need-cast-asked Inv-loop μ-loop
 cast-asked c = search needs
@@ -94,7 +94,7 @@ same-length : tie.Need-same-length Inv-loop μ-loop
 same-length c =
     let start : tie.Start Inv-loop μ-loop = search needs in
     let l : tie.At-loop Inv-loop μ-loop = search needs in
-    omega (arith, asked-long (start .pre .0) (l .loop .inv .2), sized (start .args .h .candidates) (start .pre .1 .0))
+    omega (arith, asked-long (start .pre .0) (l .loop .inv .2), sized (start .args .o .head .candidates) (start .pre .1 .0))
 
 same-length-2 : tie.Need-same-length-2 Inv-loop μ-loop
 same-length-2 c =

@@ -1,22 +1,19 @@
--- `round::access::candidate_body` meets its contract: the table has where the record starts (proofs/Bodies.antt).
+-- `round::access::candidate_body` meets its contract: the records of the candidates stand behind those of the institutes (proofs/Bodies.antt).
 -- Assumes nothing.
-use Rattle.round.proofs.Bodies.{candidate-there, candidate-read}
+use native.Mathlib.Omega.{arith}
+use Rattle.round.proofs.Bodies.{numbers-few, candidate-below}
 use borrow.Author.Needs.{needs}
 use Rattle.round.proofs.access.candidate_body.Statement.{statement}
 use Rattle.round.proofs.access.candidate_body.Tie as tie
 
-mul-body-at : tie.Need-mul-body-at
-mul-body-at c = search needs
+add-body-of : tie.Need-add-body-of
+add-body-of c = let s : tie.Start = search needs in omega (arith, numbers-few (s .pre .0))
 
-shared-slice-read-body-at : tie.Need-shared-slice-read-body-at
-shared-slice-read-body-at c = search needs
-
-body-at-requires : tie.Need-body-at-requires
-body-at-requires c κs = search candidate-there
+body-of-requires : tie.Need-body-of-requires
+body-of-requires c κs = (search needs, (search needs, search candidate-below))
 
 returns : tie.Need-returns
-returns c = search candidate-read
+returns c = search needs
 
 pub candidate-body-spec : {M : Type 1} → statement M
-candidate-body-spec =
-    tie.close (tie.spec mul-body-at shared-slice-read-body-at body-at-requires returns)
+candidate-body-spec = tie.close (tie.spec add-body-of body-of-requires returns)

@@ -1,22 +1,22 @@
--- `round::access::merit_body` meets its contract: the table has where the record starts (proofs/Bodies.antt).
+-- `round::access::merit_body` meets its contract: the merit lists stand behind the records of the candidates (proofs/Bodies.antt).
 -- Assumes nothing.
-use Rattle.round.proofs.Bodies.{list-there, list-read}
+use native.Mathlib.Omega.{arith}
+use Rattle.round.proofs.Bodies.{numbers-few, merit-below}
 use borrow.Author.Needs.{needs}
 use Rattle.round.proofs.access.merit_body.Statement.{statement}
 use Rattle.round.proofs.access.merit_body.Tie as tie
 
-mul-body-at : tie.Need-mul-body-at
-mul-body-at c = search needs
+add-body-of : tie.Need-add-body-of
+add-body-of c = let s : tie.Start = search needs in omega (arith, numbers-few (s .pre .0))
 
-shared-slice-read-body-at : tie.Need-shared-slice-read-body-at
-shared-slice-read-body-at c = search needs
+add-body-of-2 : tie.Need-add-body-of-2
+add-body-of-2 c = let s : tie.Start = search needs in omega (arith, numbers-few (s .pre .0))
 
-body-at-requires : tie.Need-body-at-requires
-body-at-requires c κs = search list-there
+body-of-requires : tie.Need-body-of-requires
+body-of-requires c κs = (search needs, (search needs, search merit-below))
 
 returns : tie.Need-returns
-returns c = search list-read
+returns c = search needs
 
 pub merit-body-spec : {M : Type 1} → statement M
-merit-body-spec =
-    tie.close (tie.spec mul-body-at shared-slice-read-body-at body-at-requires returns)
+merit-body-spec = tie.close (tie.spec add-body-of add-body-of-2 body-of-requires returns)

@@ -1,6 +1,7 @@
 -- `round::reader::read_round` meets its contract: the head, and what follows it (proofs/Rest.antt).
 -- Assumes nothing.
-use Rattle.round.proofs.Rest.{round-refused, round-read, head-inside, head-room, head-range, head-behind, head-places}
+use native.Mathlib.Omega.{arith}
+use Rattle.round.proofs.Rest.{round-refused, round-read, head-inside, head-room, head-range, head-behind, head-low}
 use borrow.Author.Needs.{needs}
 use Rattle.round.proofs.reader.read_round.Statement.{statement}
 use Rattle.round.proofs.reader.read_round.Tie as tie
@@ -39,13 +40,10 @@ head-in-requires : tie.Need-head-in-requires
 head-in-requires c κs = search head-room
 
 read-rest-requires : tie.Need-read-rest-requires
-read-rest-requires c κs = (search head-range, (search head-inside, (search, search head-places)))
+read-rest-requires c κs = (search head-range, ((search head-inside, search head-low), search needs))
 
 same-length : tie.Need-same-length
 same-length c = search needs
-
-same-length-2 : tie.Need-same-length-2
-same-length-2 c = search needs
 
 returns-2 : tie.Need-returns-2
 returns-2 c = search round-read
@@ -67,5 +65,4 @@ read-round-spec =
     head-in-requires
     read-rest-requires
     same-length
-    same-length-2
     returns-2)

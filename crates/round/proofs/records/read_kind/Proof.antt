@@ -4,15 +4,15 @@ use borrow.Author.Needs.{needs}
 use Prim.Native.Nat.{_-_}
 use native.Mathlib.Omega.{arith}
 use Rattle.round.specs.Read.{asHead}
-use Rattle.round.proofs.Run.{Run, run-none, run-refused, run-more, run-done}
+use Rattle.round.proofs.Run.{Run, run-none, run-fits, run-refused, run-more, run-done}
 use Rattle.round.proofs.records.read_kind.Statement.{statement}
 use Rattle.round.proofs.records.read_kind.Tie as tie
 
 abbrev Inv-loop : tie.InvT-loop
-Inv-loop file from h kind count starts₀ at₀ i₀ starts at i = Run file (asHead h) kind count from starts₀ i at starts
+Inv-loop file from h kind first count starts₀ at₀ i₀ starts at i = Run file (asHead h) kind first count from starts₀ i at starts
 
 abbrev μ-loop : tie.MeasureT-loop
-μ-loop file from h kind count starts₀ at₀ i₀ starts at i = count - i
+μ-loop file from h kind first count starts₀ at₀ i₀ starts at i = count - i
 
 loop-holds : tie.Need-loop-holds Inv-loop μ-loop
 loop-holds c = search run-none
@@ -31,6 +31,12 @@ same-length c = search needs
 
 returns : tie.Need-returns Inv-loop μ-loop
 returns c = search run-refused
+
+cast-starts : tie.Need-cast-starts Inv-loop μ-loop
+cast-starts c = search run-fits
+
+add-starts : tie.Need-add-starts Inv-loop μ-loop
+add-starts c = omega arith
 
 mul-starts : tie.Need-mul-starts Inv-loop μ-loop
 mul-starts c = omega arith
@@ -65,6 +71,8 @@ read-kind-spec =
     enum-told
     same-length
     returns
+    cast-starts
+    add-starts
     mul-starts
     slice-write-starts
     add-i
