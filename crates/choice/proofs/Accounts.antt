@@ -1,14 +1,12 @@
--- What the account says of a place: a step takes it by merit just where the choice gives it that step and no step takes it for use; the type
--- used is that of the step that the choice gives it.
+-- What the account says of a place: the type used is that of the step that the choice gives it. What it says of all: the closing place of a step.
 use Prim.Native.Nat.{ℕ, zero, suc, _+_, _-_, _≤_, _<_}
-use mathlib.Core.Path.{_≡_, refl, sym, _∙_, ap}
-use mathlib.Core.Bool.{Bool, true, false, cond, not, _&&_, _||_, true≢false}
+use mathlib.Core.Path.{_≡_, refl, sym, _∙_}
+use mathlib.Core.Bool.{Bool, true, false, cond, _||_, true≢false}
 use mathlib.Core.Logic.{_≢_}
 use mathlib.Core.List.{List, [], _∷_}
 use native.Mathlib.Omega.{arith}
-use lib.Dec.{eqb, ltb}
 use lib.ListN.{length, getD, List·getD-eq-default}
-use borrow.Author.Tests.{eqb-true, eq-eqb, ne-eqb, lt-ltb}
+use borrow.Author.Tests.{eqb-true}
 use Rattle.round.specs.Round.{StepRule}
 use Rattle.round.specs.Lists.{greatest}
 use Rattle.round.proofs.Words.{and-snd, length-tabulate, tabulate-at}
@@ -19,16 +17,9 @@ use Rattle.choice.proofs.Counting.{clash, test, sameOr, false-unless}
 use Rattle.choice.proofs.Last.{last-few}
 use Rattle.choice.proofs.Offers.{Offers}
 use Rattle.choice.proofs.Tabulate.{getD-zeros}
-use Rattle.choice.proofs.Types.{types-some, types-none}
-use Rattle.choice.proofs.Filling.{use-taken, merit-is}
+use Rattle.choice.proofs.Types.{types-none}
+use Rattle.choice.proofs.Filling.{use-taken}
 use Rattle.choice.proofs.Chosen.{taken-considered}
-
-both-taken : (t e u v : Bool) → t ≡ true → e ≡ true → v ≡ false → (t && not u) ≡ (e && not (u || v))
-both-taken t e true v a b c = rw (a, b)
-both-taken t e false v a b c = rw (a, b, c)
-
-neither-taken : (t e u v : Bool) → t ≡ false → e ≡ false → (t && u) ≡ (e && v)
-neither-taken t e u v a b = rw (a, b)
 
 -- where no step takes a place for use it has no type
 pub type-none : (steps : List StepAccount) (p : ℕ) → usedIn steps p ≡ false → typeIn steps p ≡ 0
@@ -56,21 +47,10 @@ module _ (marks : List ℕ) (Y : Offers) (p : ℕ) (inside : p < length marks) w
     unfolding accountAt takenAt
     for-use-taken t = use-taken (rule .reserved) marks _ _ p (sym (tabulate-at (length marks) _ false p inside) ∙ t)
 
-    -- the step has a type for it just where it takes it for use
-    used-some : tookForUse (accountAt marks Y k rule done) p ≡ true → 0 < typeUsed (accountAt marks Y k rule done) p
-    unfolding accountAt
-    used-some t = types-some (rule .reserved) marks _ p inside (sym (tabulate-at (length marks) _ false p inside) ∙ t)
-
+    -- a place that the step does not take for use has no type of it
     used-none : tookForUse (accountAt marks Y k rule done) p ≡ false → typeUsed (accountAt marks Y k rule done) p ≡ 0
     unfolding accountAt
     used-none t = types-none (rule .reserved) marks _ p (sym (tabulate-at (length marks) _ false p inside) ∙ t)
-
-    by-merit-is : tookByMerit (accountAt marks Y k rule done) p ≡ (takenAt marks Y k rule done p && not (tookForUse (accountAt marks Y k rule done) p))
-    unfolding accountAt takenAt
-    by-merit-is =
-        tabulate-at (length marks) _ false p inside
-        ∙ merit-is (rule .reserved) marks _ _ p
-        ∙ ap (λ (b : Bool). takenAt marks Y k rule done p && not b) (sym (tabulate-at (length marks) _ false p inside))
 
     -- a place with a step is taken at no other
     not-again : given done ≢ 0 → takenAt marks Y k rule done p ≡ false
@@ -106,45 +86,6 @@ module _ (marks : List ℕ) (Y : Offers) (p : ℕ) (inside : p < length marks) w
       go true z = absurd (omega arith)
       go false z = z
 
-  merit-from : (rules : List StepRule) (k i m : ℕ) (done : Progress) → m ≡ k + i → 0 < k → given done < k
-      → tookByMerit (accountOf (accountFrom marks Y k rules done) (suc i)) p
-      ≡ (eqb (given (advanceAll marks Y k rules done)) m && not (usedIn (accountFrom marks Y k rules done) p))
-  unfolding advanceAll accountFrom usedIn
-  merit-from [] k i m done e pos low = rw (ne-eqb (given done) m (λ z. omega arith))
-  merit-from (rule ∷ rules) k zero m done e pos low =
-      let next = advance marks Y k rule done in
-      test (takenAt marks Y k rule done p)
-      (λ t.
-      let now : given next ≡ k = given-next k rule done ∙ rw t in
-      let later = kept rules (suc k) next (λ z. omega arith) in
-      by-merit-is k rule done ∙ both-taken _ _ (tookForUse (accountAt marks Y k rule done) p) _ t (eq-eqb _ m (later .0 ∙ omega arith)) (later .1))
-      (λ t.
-      let same : given next ≡ given done = given-next k rule done ∙ rw t in
-      by-merit-is k rule done ∙ neither-taken _ _ _ _ t (ne-eqb _ m (λ z. omega (arith, comes rules (suc k) m next (omega arith) z))))
-  merit-from (rule ∷ rules) k (suc i) m done e pos low =
-      let next = advance marks Y k rule done in
-      let at : suc (suc i) - 1 ≡ suc (suc i - 1) = omega arith in
-      rw at
-      (merit-from rules (suc k) i m next (omega arith) (omega arith) (rw (given-next k rule done) (less (takenAt marks Y k rule done p)))
-      ∙ test (tookForUse (accountAt marks Y k rule done) p)
-      (λ u.
-      let now : given next ≡ k = given-next k rule done ∙ rw (for-use-taken k rule done u) in
-      let last : given (advanceAll marks Y (suc k) rules next) ≡ k = kept rules (suc k) next (λ z. omega arith) .0 ∙ now in
-      rw (ne-eqb (given (advanceAll marks Y (suc k) rules next)) m (λ z. omega arith)))
-      (λ u. rw u))
-    where
-      less : (b : Bool) → cond b k (given done) < suc k
-      less true = omega arith
-      less false = omega arith
-
-  used-typed : (rules : List StepRule) (k : ℕ) (done : Progress) → usedIn (accountFrom marks Y k rules done) p ≡ ltb 0 (typeIn (accountFrom marks Y k rules done) p)
-  unfolding accountFrom usedIn typeIn
-  used-typed [] k done = refl
-  used-typed (rule ∷ rules) k done =
-      test (tookForUse (accountAt marks Y k rule done) p)
-      (λ t. rw (t, lt-ltb 0 (typeUsed (accountAt marks Y k rule done) p) (used-some k rule done t)))
-      (λ t. rw t (used-typed rules (suc k) (advance marks Y k rule done)))
-
   type-from : (rules : List StepRule) (k i m : ℕ) (done : Progress) → m ≡ k + i → 0 < k → given done < k → given (advanceAll marks Y k rules done) ≡ m
       → typeIn (accountFrom marks Y k rules done) p ≡ typeUsed (accountOf (accountFrom marks Y k rules done) (suc i)) p
   unfolding advanceAll accountFrom typeIn
@@ -174,17 +115,6 @@ module _ (marks : List ℕ) (Y : Offers) (p : ℕ) (inside : p < length marks) w
       less : (b : Bool) → cond b k (given done) < suc k
       less true = omega arith
       less false = omega arith
-
--- the choice gives place p step k, and no step takes it for use: step k takes it by merit
-pub merit-of : (marks : List ℕ) (Y : Offers) (rules : List StepRule) (p k : ℕ) → p < length marks
-    → tookByMerit (accountOf (account marks Y rules) (suc k)) p ≡ (eqb (getD (choose marks Y rules) p 0) (suc k) && not (usedIn (account marks Y rules) p))
-unfolding account choose nothingDone
-merit-of marks Y rules p k l = merit-from marks Y p l rules 1 k (suc k) (nothingDone marks Y) (omega arith) (omega arith) (omega (arith, getD-zeros (length marks) p))
-
--- a place is taken for use just where it has a type
-pub used-type : (marks : List ℕ) (Y : Offers) (rules : List StepRule) (p : ℕ) → p < length marks → usedIn (account marks Y rules) p ≡ ltb 0 (typeIn (account marks Y rules) p)
-unfolding account
-used-type marks Y rules p l = used-typed marks Y p l rules 1 (nothingDone marks Y)
 
 -- the type of a place is the one that its step used
 pub type-of : (marks : List ℕ) (Y : Offers) (rules : List StepRule) (p k : ℕ) → p < length marks → getD (choose marks Y rules) p 0 ≡ suc k

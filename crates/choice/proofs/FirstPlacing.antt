@@ -59,13 +59,6 @@ pub firstPlacing-length : (reserved marks : List ℕ) → length (firstPlacing r
 firstPlacing-length reserved [] = rw (firstPlacing-nil reserved)
 firstPlacing-length reserved (m ∷ others) = rw (firstPlacing-cons reserved m others) (ap suc (firstPlacing-length (oneLess reserved (firstType reserved m others)) others))
 
--- each gets a type
-pub firstPlacing-some : (reserved marks : List ℕ) (i : ℕ) → i < length marks → 0 < getD (firstPlacing reserved marks) i 0
-firstPlacing-some reserved [] i l = absurd (omega arith)
-firstPlacing-some reserved (m ∷ others) zero l = rw (firstPlacing-cons reserved m others) (omega arith)
-firstPlacing-some reserved (m ∷ others) (suc i) l =
-    rw (firstPlacing-cons reserved m others) (firstPlacing-some (oneLess reserved (firstType reserved m others)) others i (omega arith))
-
 placedIn-most : (types : List ℕ) → placedIn types ≤ length types
 placedIn-most [] = unfold placedIn in omega arith
 placedIn-most (x ∷ types) = omega (arith, placedIn-cons x types, bit-max (ltb 0 x), placedIn-most types)

@@ -1,7 +1,7 @@
--- The types at the places of a set depend on the set below the last place alone; just its places have one.
+-- The types at the places of a set depend on the set below the last place alone; other places have none.
 use Prim.Native.Nat.{ℕ, _<_}
 use mathlib.Core.Path.{_≡_, refl, _∙_}
-use mathlib.Core.Bool.{Bool, true, false, cond}
+use mathlib.Core.Bool.{Bool, false, cond}
 use mathlib.Core.List.{List}
 use native.Mathlib.Omega.{arith}
 use lib.ListN.{length, getD, List·getD-eq-default}
@@ -11,8 +11,7 @@ use Rattle.choice.specs.Gathers.{gathered}
 use Rattle.choice.specs.FirstPlacing.{firstPlacing, typesOf}
 use Rattle.choice.proofs.Counting.{lessOr, count-ext}
 use Rattle.choice.proofs.Tabulate.{tabulate-cong}
-use Rattle.choice.proofs.Gathered.{number-below, gathered-length, gathered-same}
-use Rattle.choice.proofs.FirstPlacing.{firstPlacing-some}
+use Rattle.choice.proofs.Gathered.{gathered-same}
 
 module _ (reserved marks : List ℕ) where
   -- the first placing of those at the places of a set
@@ -32,12 +31,6 @@ module _ (reserved marks : List ℕ) where
   types-cong X Y h =
       let lists = gathered-same X Y (λ p. getD marks p 0) (λ p. getD marks p 0) (length marks) h (λ p l x. refl) in
       tabulate-cong (length marks) _ _ (λ p l. rw (h p l, lists, count-ext p X Y (λ q b. h q (omega arith))))
-
-  pub types-some : (X : ℕ → Bool) (p : ℕ) → p < length marks → X p ≡ true → 0 < getD (typesOf reserved marks X) p 0
-  types-some X p l x =
-      rw (types-at X p l, x)
-      (firstPlacing-some reserved (gathered X (length marks) (λ p. getD marks p 0)) (count p X)
-      (omega (arith, gathered-length X (λ p. getD marks p 0) (length marks), number-below X p (length marks) l x)))
 
   pub types-none : (X : ℕ → Bool) (p : ℕ) → X p ≡ false → getD (typesOf reserved marks X) p 0 ≡ 0
   types-none X p x =

@@ -1,13 +1,12 @@
 -- When the process of a sound round has ended: an institute's account from any offers between its seats and all offers made to it is the one
--- from all of them, and says which seats were given by merit and which type was used for each.
+-- from all of them, and says which type was used for each seat.
 use mathlib.Core.Path.{_≡_, refl, sym, _∙_, ap}
-use mathlib.Core.Bool.{true, not, _&&_}
+use mathlib.Core.Bool.{true}
 use mathlib.Core.Logic.{_⊎_, inl, inr}
 use mathlib.Core.List.{[]}
 use Prim.Native.Nat.{ℕ, suc, _-_, _<_}
 use native.Mathlib.Omega.{arith}
 use native.Mathlib.Decide.{decLt}
-use lib.Dec.{eqb, ltb}
 use lib.ListN.{length, getD}
 use borrow.Author.Tests.{ne-eqb}
 use Rattle.round.specs.declared.entry.Category.{Category}
@@ -17,17 +16,17 @@ use Rattle.round.specs.Lists.{tabulate}
 use Rattle.round.specs.Sound.{Sound}
 use Rattle.round.proofs.Words.{length-tabulate, tabulate-at}
 use Rattle.choice.specs.Choice.{choose}
-use Rattle.choice.specs.Account.{tookByMerit, typeUsed, accountOf, usedIn}
-use Rattle.choice.proofs.Accounts.{merit-of, used-type, type-of}
+use Rattle.choice.specs.Account.{typeUsed, accountOf}
+use Rattle.choice.proofs.Accounts.{type-of}
 use Rattle.offers.specs.Offers.{OfferSet, marksOn, atPlaces, placeOn, stepsOn, accountOn, stepFor, typeFor}
 use Rattle.offers.specs.Process.{Seat, noSeat, candidateCount, instituteCount, madeTo, tried, seats, accountAtEnd, typeBy, typesUsed}
-use Rattle.offers.specs.Stable.{given, stepOf}
+use Rattle.offers.specs.Stable.{given}
 use Rattle.offers.proofs.Rounds.Agreed.{merit-marks, same-account-on, step-absent}
 use Rattle.offers.proofs.Rounds.Running.{held-at, Running, one-at, held-made}
 use Rattle.offers.proofs.Rounds.Places.{meritLength}
 use Rattle.offers.proofs.Rounds.Seats.{stepIn, Seated, Unseated, seat-of}
 use Rattle.offers.proofs.Rounds.Process.{tried-running}
-use Rattle.offers.proofs.Rounds.Given.{seated-at, given-held, step-given}
+use Rattle.offers.proofs.Rounds.Given.{seated-at, given-held}
 
 module _ {types : ℕ} {r : Round} (sound : Sound types r) (j : ℕ) (hj : j < instituteCount r) where
   run : Running r (tried r)
@@ -53,15 +52,6 @@ module _ {types : ℕ} {r : Round} (sound : Sound types r) (j : ℕ) (hj : j < i
   unfolding stepFor stepsOn
   step-here i = refl
 
-  -- a step seats a candidate by merit just where the seat is of that step and not for use
-  pub merit-seated : (i k : ℕ) → i < candidateCount r → placeOn r j i < meritLength r j
-      → tookByMerit (accountOf (accountAtEnd r j) (suc k)) (placeOn r j i)
-      ≡ (eqb (stepOf r (seats r) j i) (suc k) && not (usedIn (accountAtEnd r j) (placeOn r j i)))
-  unfolding accountAtEnd accountOn seats
-  merit-seated i k hi l =
-      merit-of (marksOn r j) (atPlaces r j (madeTo r (tried r) j)) (instituteAt r j .steps) (placeOn r j i) k (omega (arith, merit-marks r j))
-      ∙ ap (λ s. eqb s (suc k) && not (usedIn (accountAtEnd r j) (placeOn r j i))) (step-here i ∙ sym (step-given sound run i j hi hj))
-
   -- the type used for a candidate with a step is the one that the step used
   pub type-seated : (i k : ℕ) → stepIn r (tried r) j i ≡ suc k
       → typeFor r j (madeTo r (tried r) j) i ≡ typeUsed (accountOf (accountAtEnd r j) (suc k)) (placeOn r j i)
@@ -73,12 +63,6 @@ module _ {types : ℕ} {r : Round} (sound : Sound types r) (j : ℕ) (hj : j < i
             (step-here i ∙ e)
         | no l ↦ absurd (omega (arith, step-absent r j (madeTo r (tried r) j) i l))
       ]
-
-  -- a candidate on the merit list is taken for use just where a type is used
-  pub used-typed : (i : ℕ) → placeOn r j i < meritLength r j
-      → usedIn (accountAtEnd r j) (placeOn r j i) ≡ ltb 0 (typeFor r j (madeTo r (tried r) j) i)
-  unfolding accountAtEnd accountOn typeFor
-  used-typed i l = used-type (marksOn r j) (atPlaces r j (madeTo r (tried r) j)) (instituteAt r j .steps) (placeOn r j i) (omega (arith, merit-marks r j))
 
   -- the type of a candidate with a seat of the institute is the one that the seat's step used
   pub types-at-step : (i k : ℕ) → i < candidateCount r → getD (seats r) i noSeat ≡ record { institute = suc j; step = suc k }
