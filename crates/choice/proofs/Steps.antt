@@ -6,8 +6,8 @@ use mathlib.Core.List.{List, [], _∷_, _++_}
 use native.Mathlib.Omega.{arith}
 use lib.Dec.{ltb}
 use lib.ListN.{length, getD, take, drop, replicate, length-replicate}
-use lib.Seq.{take-at, length-take-le, length-front}
-use borrow.Author.Tests.{lt-ltb, le-ltb}
+use lib.Seq.{take-at, length-take-le, length-front, ext-getD}
+use borrow.Author.Tests.{lt-ltb, le-ltb, ltb-false}
 use Rattle.round.specs.Lists.{count, bit}
 use Rattle.round.specs.declared.entry.Category.{Category}
 use Rattle.round.specs.declared.entry.Category.the-variants.{Open, SC, ST, OBC, EWS}
@@ -17,11 +17,11 @@ use Rattle.choice.specs.Offers.{Places}
 use Rattle.choice.specs.Taken.{Took}
 use Rattle.choice.specs.Lowered.{PlacedFirst, TookTyped}
 use Rattle.choice.specs.Fill.{typedAt, restAt, fillsAt, seatsAt, lastOf, numbered, typed, stepGiven, stepVacant, stepTypes, stepNumbers}
-use Rattle.choice.proofs.Counting.{lessOr, count-ext}
-use Rattle.choice.proofs.Sets.{count-best}
+use Rattle.choice.proofs.Counting.{lessOr, clash, count-ext}
+use Rattle.choice.proofs.Sets.{same-by-count, count-best}
 use Rattle.choice.proofs.Last.{last-ext}
 use Rattle.choice.proofs.Tabulate.{tabulate-cong}
-use Rattle.choice.proofs.Types.{types-cong}
+use Rattle.choice.proofs.Types.{types-length, types-cong, types-none}
 
 -- a part of a list of the same
 take-replicate : (k n : ℕ) → k ≤ n → take k (replicate n zero) ≡ replicate k zero
@@ -131,18 +131,38 @@ took-typed {reserved = reserved} {marks = marks} k f e = record {
   types = λ t. f .types t ∙ types-cong reserved marks _ _ (λ q l. sym (k .each q l));
 }
 
+-- where nobody is taken for use nobody has a type, and that is the first placing
+pub took-nobody : {first : Bool} {reserved left marks placed : List ℕ} {X : ℕ → Bool} {took : ℕ} → Took reserved left marks placed X took → took ≡ 0
+    → TookTyped first reserved marks placed X 0
+took-nobody {reserved = reserved} {marks = marks} {placed = placed} {X = X} k e = record {
+  each = k .each;
+  number = sym e ∙ k .number;
+  types = λ t.
+      ext-getD 0 _ _ (k .placing .each ∙ sym (types-length reserved marks H))
+      (λ p l.
+      let b : p < length marks = omega (arith, k .placing .each) in
+      let none : H p ≡ false = nobody p b in
+      omega (arith, ltb-false 0 (getD placed p 0) (sym (k .each p b) ∙ none), types-none reserved marks H p none));
+}
+  where
+    H : ℕ → Bool
+    H = takenForUse reserved marks X
+
+    nobody : (p : ℕ) → p < length marks → takenForUse reserved marks X p ≡ false
+    nobody p l = sym (same-by-count (length marks) (λ q. false) (takenForUse reserved marks X) (λ q b f. clash f refl) (omega (arith, k .number, e)) p l)
+
 -- what filling says of the types and the positions left is what the step says
-pub step-done : {reserved marks offers types types′ given steps used₀ used : List ℕ} {X : ℕ → Bool} {first : Bool} (number positions : ℕ) {took free filled vacant closing : ℕ}
-    → Places marks offers given used₀ → TookTyped first reserved marks types X took → types′ ≡ types → free ≡ positions - took
-    → (steps ≡ numbered (length given) number (seatsAt types′ X free) given) × (filled ≡ min free (count (length given) (restAt types′ X)))
-    × (used ≡ typed (length given) types′ (typedAt types′) used₀) × (closing ≡ lastOf (length given) (fillsAt types′ X free)) → vacant ≡ free - filled
+pub step-done : {reserved marks offers types given steps used₀ used : List ℕ} {X : ℕ → Bool} {first : Bool} (number positions : ℕ) {took free filled vacant closing : ℕ}
+    → Places marks offers given used₀ → TookTyped first reserved marks types X took → free ≡ positions - took
+    → (steps ≡ numbered (length given) number (seatsAt types X free) given) × (filled ≡ min free (count (length given) (restAt types X)))
+    × (used ≡ typed (length given) types (typedAt types) used₀) × (closing ≡ lastOf (length given) (fillsAt types X free)) → vacant ≡ free - filled
     → (steps ≡ stepGiven number reserved marks X positions given) × (positions ∷ took ∷ filled ∷ vacant ∷ closing ∷ [] ≡ stepNumbers reserved marks X positions)
     × (first ≡ true → used ≡ stepTypes reserved marks X used₀)
-step-done {reserved} {marks} {types = types} {given = given} {used₀ = used₀} {X = X} {first} number positions {took} {free} {filled} {vacant} {closing} p k same left s v = (
-  rw (same, p .steps-each, left) at (s .0) ∙ numbered-same (length marks) number _ _ given (seats-same first reserved marks types X positions took k),
-  numbers-same first reserved marks types X positions took k free filled vacant closing left (rw (same, p .steps-each) at (s .1)) v
-      (rw (same, p .steps-each) at (s .3)),
-  λ t. rw (same, p .steps-each) at (s .2) ∙ typed-same (length marks) types _ _ _ used₀ (λ q l. sym (k .each q l)) (k .types t),
+step-done {reserved} {marks} {types = types} {given = given} {used₀ = used₀} {X = X} {first} number positions {took} {free} {filled} {vacant} {closing} p k left s v = (
+  rw (p .steps-each, left) at (s .0) ∙ numbered-same (length marks) number _ _ given (seats-same first reserved marks types X positions took k),
+  numbers-same first reserved marks types X positions took k free filled vacant closing left (rw (p .steps-each) at (s .1)) v
+      (rw (p .steps-each) at (s .3)),
+  λ t. rw (p .steps-each) at (s .2) ∙ typed-same (length marks) types _ _ _ used₀ (λ q l. sym (k .each q l)) (k .types t),
 )
 
 pub code-small : (x : Category) → codeOf x ≤ 4

@@ -132,6 +132,9 @@ pub fn take_typed(
 {
     let mut left = positions_of(reserved);
     let count = take_for_use(reserved, &mut left, marks, offers, steps, code, placed);
+    if count == 0 {
+        return 0;
+    }
     place_first(first, reserved, &mut left, marks, placed);
     count
 }

@@ -9,6 +9,7 @@ pub mod take;
 
 use account::note;
 use round::clearing::clear;
+use round::clearing::zeros;
 use step::step;
 ghost use mathlib.Core.Path.{_≡_};
 ghost use mathlib.Core.Bool.{true};
@@ -38,6 +39,7 @@ fn next_step(
     marks: &[u8],
     offers: &[u8],
     first: bool,
+    placed: &mut [u8],
     handed: &mut [usize],
     steps: &mut [u8],
     used: &mut [u8],
@@ -46,6 +48,7 @@ fn next_step(
     requires { ⌜ RuleTable types (suc k) (now rules) ⌝ }
     requires { ⌜ Handing k (now handed) ⌝ }
     requires { ⌜ Places (now marks) (now offers) (now steps) (now used) ⌝ }
+    requires { ⌜ length (now placed) ≡ length (now marks) ⌝ }
     requires { ⌜ (first ≡ true → length (now noted) ≡ 60) ⌝ }
     ensures { λ _. ⌜ (doneBy (now (steps .exit)) (now (handed .exit)) ≡ Choice.advance (now (marks .entry)) (offeredBy (now (offers .entry))) (suc k) (ruleIn types (now (rules .entry)) k) (doneBy (now (steps .entry)) (now (handed .entry))))
         × Handing (suc k) (now (handed .exit))
@@ -67,6 +70,7 @@ fn next_step(
         marks,
         offers,
         first,
+        placed,
         steps,
         used,
     );
@@ -94,8 +98,10 @@ pub fn choose(
         × (first ≡ true → now (used .exit) ≡ typesIn (length (now (marks .entry))) (account (now (marks .entry)) (offeredBy (now (offers .entry))) (rulesIn types count (now (rules .entry)))))
         × (first ≡ true → now (noted .exit) ≡ notedOf (account (now (marks .entry)) (offeredBy (now (offers .entry))) (rulesIn types count (now (rules .entry))))) ⌝ }
 {
-    clear(steps, marks.len());
-    clear(used, marks.len());
+    let n = marks.len();
+    clear(steps, n);
+    clear(used, n);
+    let mut placed = zeros();
     let mut handed = none_handed();
     for k in 0..count {
         next_step(
@@ -105,6 +111,7 @@ pub fn choose(
             marks,
             offers,
             first,
+            &mut placed[..n],
             &mut handed,
             steps,
             used,

@@ -1,7 +1,7 @@
 // One step: taking for use, the types of those taken, then filling by merit.
 use crate::fill::fill;
 use crate::first::take_typed;
-use round::clearing::zeros;
+use round::clearing::clear;
 ghost use mathlib.Core.Path.{_≡_};
 ghost use mathlib.Core.Bool.{true};
 ghost use Prim.Native.Nat.{_-_, _≤_, _<_};
@@ -30,7 +30,8 @@ fn left_of(positions: usize, filled: usize) -> usize
     }
 }
 
-// Does one step and returns its numbers; with `first` the types used are those of the first placing, else nothing is said of them.
+// Does one step and returns its numbers; with `first` the types used are those of the first placing, else nothing is said of them. A table is for the
+// types of those taken for use.
 pub fn step(
     reserved: &[usize],
     positions: usize,
@@ -39,20 +40,21 @@ pub fn step(
     marks: &[u8],
     offers: &[u8],
     first: bool,
+    placed: &mut [u8],
     steps: &mut [u8],
     used: &mut [u8],
 ) -> Numbers
     requires { ⌜ (length (now reserved) ≤ 8) × (code < 5) ⌝ }
     requires { ⌜ Places (now marks) (now offers) (now steps) (now used) ⌝ }
+    requires { ⌜ length (now placed) ≡ length (now marks) ⌝ }
     ensures { λ r. ⌜ (now (steps .exit) ≡ stepGiven number (now (reserved .entry)) (now (marks .entry)) (considersBy (now (offers .entry)) (now (steps .entry)) code) positions (now (steps .entry)))
         × (numbersIn r ≡ stepNumbers (now (reserved .entry)) (now (marks .entry)) (considersBy (now (offers .entry)) (now (steps .entry)) code) positions)
         × (first ≡ true → now (used .exit) ≡ stepTypes (now (reserved .entry)) (now (marks .entry)) (considersBy (now (offers .entry)) (now (steps .entry)) code) (now (used .entry))) ⌝ }
 {
-    let n = marks.len();
-    let mut types = zeros();
-    let count = take_typed(first, reserved, marks, offers, steps, code, &mut types[..n]);
+    clear(placed, marks.len());
+    let count = take_typed(first, reserved, marks, offers, steps, code, placed);
     let free = left_of(positions, count);
-    let merit = fill(free, number, offers, code, &types[..n], steps, used);
+    let merit = fill(free, number, offers, code, placed, steps, used);
     let vacant = left_of(free, merit.filled);
     Numbers {
         positions,

@@ -92,7 +92,7 @@ slice-write-handed : tie.Need-slice-write-handed
 slice-write-handed c = search receiver-low
 
 note-requires : tie.Need-note-requires
-note-requires c κs = let start : tie.Start = search needs in (omega (arith, start .pre .0 .steps-most), start .pre .1 .1 .1)
+note-requires c κs = let start : tie.Start = search needs in (omega (arith, start .pre .0 .steps-most), start .pre .1 .1 .1 .1)
 
 same-length : tie.Need-same-length
 same-length c = search needs
@@ -105,6 +105,9 @@ same-length-3 c = search needs
 
 same-length-4 : tie.Need-same-length-4
 same-length-4 c = search needs
+
+same-length-5 : tie.Need-same-length-5
+same-length-5 c = search needs
 
 returns : tie.Need-returns
 returns c =
@@ -150,4 +153,5 @@ next-step-spec =
     same-length-2
     same-length-3
     same-length-4
+    same-length-5
     returns)

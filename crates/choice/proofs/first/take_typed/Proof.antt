@@ -2,7 +2,7 @@
 use native.Mathlib.Omega.{arith}
 use lib.ListN.{length}
 use Rattle.choice.proofs.PositionsLeft.{nobody-placed}
-use Rattle.choice.proofs.Steps.{took-typed}
+use Rattle.choice.proofs.Steps.{took-typed, took-nobody}
 use borrow.Author.Needs.{needs}
 use Rattle.choice.proofs.first.take_typed.Statement.{statement}
 use Rattle.choice.proofs.first.take_typed.Tie as tie
@@ -20,17 +20,23 @@ take-for-use-requires c κs =
     let copied = made .positions-of .ensures in
     (search needs, nobody-placed _ _ _ (length (start .args .marks .now)) (omega arith) (copied .1) (start .pre .5))
 
+same-length : tie.Need-same-length
+same-length c = search needs
+
+returns : tie.Need-returns
+returns c = search took-nobody
+
 slice-aggregate-place-first : tie.Need-slice-aggregate-place-first
 slice-aggregate-place-first c = search needs
 
 place-first-requires : tie.Need-place-first-requires
 place-first-requires c κs = search needs
 
-same-length : tie.Need-same-length
-same-length c = search needs
+same-length-2 : tie.Need-same-length-2
+same-length-2 c = search needs
 
-returns : tie.Need-returns
-returns c = search took-typed
+returns-2 : tie.Need-returns-2
+returns-2 c = search took-typed
 
 pub take-typed-spec : {M : Type 1} → statement M
 take-typed-spec =
@@ -39,7 +45,9 @@ take-typed-spec =
     positions-of-requires
     slice-aggregate-take-for-use
     take-for-use-requires
+    same-length
+    returns
     slice-aggregate-place-first
     place-first-requires
-    same-length
-    returns)
+    same-length-2
+    returns-2)
