@@ -65,10 +65,14 @@ loop-again c =
     (omega arith, search needs, omega (arith, back, turn .loop .inv .2), search needs, search go-on)
 
 same-length : tie.Need-same-length Inv-loop μ-loop
-same-length c = cc
+same-length c =
+    let start : tie.Start Inv-loop μ-loop = search needs in
+    c .before .loop .inv .4 .places .steps-each ∙ sym (start .pre .1 .0 .steps-each)
 
 same-length-2 : tie.Need-same-length-2 Inv-loop μ-loop
-same-length-2 c = cc
+same-length-2 c =
+    let start : tie.Start Inv-loop μ-loop = search needs in
+    c .before .loop .inv .4 .places .used-each ∙ sym (start .pre .1 .0 .used-each)
 
 same-length-3 : tie.Need-same-length-3 Inv-loop μ-loop
 same-length-3 c = search needs
