@@ -148,8 +148,8 @@ took-nobody {reserved = reserved} {marks = marks} {placed = placed} {X = X} k e 
     H : ℕ → Bool
     H = takenForUse reserved marks X
 
-    nobody : (p : ℕ) → p < length marks → takenForUse reserved marks X p ≡ false
-    nobody p l = sym (same-by-count (length marks) (λ q. false) (takenForUse reserved marks X) (λ q b f. clash f refl) (omega (arith, k .number, e)) p l)
+    nobody : (p : ℕ) → p < length marks → H p ≡ false
+    nobody p l = sym (same-by-count (length marks) (λ q. false) H (λ q b f. clash f refl) (omega (arith, k .number, e)) p l)
 
 -- what filling says of the types and the positions left is what the step says
 pub step-done : {reserved marks offers types given steps used₀ used : List ℕ} {X : ℕ → Bool} {first : Bool} (number positions : ℕ) {took free filled vacant closing : ℕ}
