@@ -75,6 +75,20 @@ def words(text):
     return NAME.findall(text)
 
 
+def functions():
+    """The names of the functions of src/."""
+    return {n for path in files("src/**/*.rt") for n in re.findall(r"\bfn (\w+)", read(path))}
+
+
+def table_for(path, table, rust):
+    """A function's name stays in its code and in its proof, where it also names modules and steps."""
+    if path.endswith(".rt"):
+        return {old: new for old, new in table.items() if old != snake(old)}
+    if path.endswith("/Proof.antt"):
+        return {old: new for old, new in table.items() if old not in rust}
+    return table
+
+
 def turn(text, table, comment):
     out = []
     for line in text.split("\n"):
@@ -100,9 +114,10 @@ def main():
             mark = ("  FALLS TOGETHER" if new[to] > 1 else "") + (f"  STANDS ALREADY {used[to]}" if used[to] else "")
             print(f"{old} {to}{mark}")
         return
+    rust = functions()
     for path in files("**/*.antt") + files("**/*.rt"):
         text = read(path)
-        turned = turn(text, table, "--" if path.endswith(".antt") else "//")
+        turned = turn(text, table_for(path, table, rust), "--" if path.endswith(".antt") else "//")
         if turned != text:
             with open(path, "w", encoding="utf-8") as f:
                 f.write(turned)

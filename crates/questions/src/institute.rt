@@ -25,7 +25,7 @@ pub fn step_width(h: Head) -> usize
 }
 
 // The number of steps.
-pub fn step_count_lem(body: &[u8], h: Head) -> usize
+pub fn step_count(body: &[u8], h: Head) -> usize
     requires { InstituteBody h body.now }
     ensures { result ≡ step_count h body.now }
 {
@@ -87,7 +87,7 @@ fn positions_sum(body: &[u8], h: Head) -> usize
     requires { InstituteBody h body.now }
     ensures { result ≡ sum_of (step_count h body.now) (positions_in h body.now) }
 {
-    let count = step_count_lem(body, h);
+    let count = step_count(body, h);
     let mut sum: usize = 0;
     for k in 0..count {
         sum += positions_in(body, h, k);
@@ -115,7 +115,7 @@ fn reserved_fit(body: &[u8], h: Head) -> bool
         ≡ all_of (step_count h body.now)
         (λ k. leb (sum_of h.types (reserved_in h body.now k)) (positions_in h body.now k)) }
 {
-    let count = step_count_lem(body, h);
+    let count = step_count(body, h);
     for k in 0..count {
         if positions_in(body, h, k) < reserved_sum(body, h, k) {
             return false;
@@ -129,7 +129,7 @@ fn codes_known(body: &[u8], h: Head) -> bool
     requires { InstituteBody h body.now }
     ensures { result ≡ all_of (step_count h body.now) (λ k. leb (step_code h body.now k) 4) }
 {
-    let count = step_count_lem(body, h);
+    let count = step_count(body, h);
     for k in 0..count {
         if 4 < step_code(body, h, k) {
             return false;
@@ -158,7 +158,7 @@ fn receivers_later(body: &[u8], h: Head) -> bool
         (λ k. eqb (receiver_in h body.now k) 0
         || numbers.within (k + 2) (step_count h body.now) (receiver_in h body.now k)) }
 {
-    let count = step_count_lem(body, h);
+    let count = step_count(body, h);
     for k in 0..count {
         if !receiver_later(body, h, count, k) {
             return false;

@@ -12,7 +12,7 @@ ghost use Rattle.reader.specs.Access.{StepsRead};
 use crate::opened::{Opened, replaces, stood};
 use lists::word::{from_four_bytes, word};
 use questions::head::own_steps;
-use questions::institute::{step_code, step_count_lem};
+use questions::institute::{step_code, step_count};
 use questions::merit::merit_in;
 use questions::row::{entry_count, entry_in};
 use round::entry::{Category, Entry, category_of};
@@ -150,7 +150,7 @@ pub fn step_numbers(file: &[u8], o: Opened, row: &[u8], starts: &[u32], j: usize
 {
     let h = o.head;
     if own_steps(h) {
-        step_count_lem(institute_body(file, o, row, starts, j), h)
+        step_count(institute_body(file, o, row, starts, j), h)
     } else {
         6
     }

@@ -5,7 +5,7 @@ ghost use Rattle.questions.specs.Read.{InstituteBody, LawfulSteps};
 ghost use Rattle.reader.specs.RulesRead.{rule_numbers, RuleWritten, RulesRead};
 
 use questions::head::Head;
-use questions::institute::{positions_in, receiver_in, reserved_in, step_code, step_count_lem};
+use questions::institute::{positions_in, receiver_in, reserved_in, step_code, step_count};
 
 // A table for the rules of twelve steps.
 pub fn rule_table() -> [usize; 132]
@@ -46,7 +46,7 @@ pub fn rules_of(body: &[u8], h: Head, table: &mut [usize]) -> usize
     requires in_bounds { 132 ≤ length table.old }
     ensures { RulesRead h body.now table.new result }
 {
-    let count = step_count_lem(body, h);
+    let count = step_count(body, h);
     for k in 0..count {
         write_rule(body, h, k, table);
     }

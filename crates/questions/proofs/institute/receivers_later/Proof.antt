@@ -34,13 +34,13 @@ returns c =
     let t = c.before.before in
     let l = t.before in
     let a = (start l).args in
-    all_failed (later a.h a.body.now) l.before.step_count_lem.ensures t.loop-test.true (was_no {b = later a.h a.body.now l.before.step_count_lem.result l.loop.k} c.before.receiver_later.ensures c.if1.true)
+    all_failed (later a.h a.body.now) l.before.step_count.ensures t.loop-test.true (was_no {b = later a.h a.body.now l.before.step_count.result l.loop.k} c.before.receiver_later.ensures c.if1.true)
 
 returns-2 : tie.Need-returns-2 invariant-loop decreases-loop
 returns-2 c =
     let l = c.before in
     let a = (start l).args in
-    all_ended (later a.h a.body.now) l.before.step_count_lem.ensures l.loop.invariant.0 c.loop-test.false l.loop.invariant.1
+    all_ended (later a.h a.body.now) l.before.step_count.ensures l.loop.invariant.0 c.loop-test.false l.loop.invariant.1
 
 pub receivers-later-spec : {M : Type 1} → statement M
 receivers-later-spec =

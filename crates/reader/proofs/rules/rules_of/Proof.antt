@@ -33,7 +33,7 @@ write-rule-requires c κs =
     let t = c.before in
     let l = t.before in
     let p = (start l).requires in
-    let low : l.loop.k < step_count (start l).args.h (start l).args.body.now = omega (arith, t.loop-test.true, l.before.step_count_lem.ensures) in
+    let low : l.loop.k < step_count (start l).args.h (start l).args.body.now = omega (arith, t.loop-test.true, l.before.step_count.ensures) in
     (p.0.body_of, (low, omega (arith, l.loop.invariant.1, p.1, p.0.body_of.types_most, row_start (start l).args.h.types l.loop.k 11 p.0.body_of.types_most (omega (arith, p.0.body_of.steps_most)))))
 
 loop-again : tie.Need-loop-preserved invariant-loop decreases-loop
@@ -54,13 +54,13 @@ returns c =
     let l = ended written.before in
     let a = (start l).args in
     six_rules a.h a.body.now (start l).pre.0 _ (omega (arith, written.write-dereserved.auto.1.0, l.loop.inv.1, (start l).pre.1)) l.loop.table (eq-eqb _ _ one)
-    (rows_all l.loop.inv.2 (omega (arith, one_steps a.h a.body.now one, l.before.step_count_lem.ensures))) written.write-dereserved.ensures
+    (rows_all l.loop.inv.2 (omega (arith, one_steps a.h a.body.now one, l.before.step_count.ensures))) written.write-dereserved.ensures
 
 returns-2 : tie.Need-returns-2 invariant-loop decreases-loop
 returns-2 c =
     let l = c.before.before.before in
     let a = (start l).args in
-    body_rules a.h a.body.now (start l).requires.0 _ (omega (arith, l.loop.invariant.1, (start l).requires.1)) _ l.before.step_count_lem.ensures
+    body_rules a.h a.body.now (start l).requires.0 _ (omega (arith, l.loop.invariant.1, (start l).requires.1)) _ l.before.step_count.ensures
     (ne_eqb _ _ c.if1.false) (rows_all l.loop.invariant.2 (omega arith))
 
 pub rules-of-spec : {M : Type 1} → statement M
