@@ -7,6 +7,7 @@ rewritten in place; --list prints the old and new names and writes nothing.
 
 import collections
 import glob
+import os
 import re
 import sys
 
@@ -80,8 +81,20 @@ def functions():
     return {n for path in files("src/**/*.rt") for n in re.findall(r"\bfn (\w+)", read(path))}
 
 
-def table_for(path, table, rust):
-    """A function's name stays in its code and in its proof, where it also names modules and steps."""
+def borrowed(text):
+    """The names that a file has from a library."""
+    own = {os.path.basename(c) for c in glob.glob("crates/*")}
+    names = set()
+    for module, list_of in re.findall(r"^use ([^\s{]+?)\.\{([^}]*)\}", text, re.M):
+        parts = module.split(".")
+        if parts[0] != "Rattle" or parts[1] not in own:
+            names.update(n.strip() for n in list_of.split(","))
+    return names
+
+
+def table_for(path, text, table, rust):
+    """A name of a library stays, and a function's name in its code and in its proof, where it also names modules and steps."""
+    table = {old: new for old, new in table.items() if old not in borrowed(text)}
     if path.endswith(".rt"):
         return {old: new for old, new in table.items() if old != snake(old)}
     if path.endswith("/Proof.antt"):
@@ -117,7 +130,7 @@ def main():
     rust = functions()
     for path in files("**/*.antt") + files("**/*.rt"):
         text = read(path)
-        turned = turn(text, table_for(path, table, rust), "--" if path.endswith(".antt") else "//")
+        turned = turn(text, table_for(path, text, table, rust), "--" if path.endswith(".antt") else "//")
         if turned != text:
             with open(path, "w", encoding="utf-8") as f:
                 f.write(turned)

@@ -2,7 +2,7 @@
 -- offers, one within the other and both with what the completion takes of the larger, get the same steps and the same account.
 use Prim.Native.Nat.{ℕ, suc, ◌+◌, ◌-◌, ◌≤◌, ◌<◌}
 use mathlib.Core.Path.{◌≡◌, refl, sym, ◌∙◌, ap}
-use mathlib.Core.Bool.{Bool, true, false, cond, not, ◌&&◌, and_false, and-not_self}
+use mathlib.Core.Bool.{Bool, true, false, cond, not, ◌&&◌, and-false, and-not_self}
 use mathlib.Core.List.{List, [], ◌∷◌}
 use mathlib.Core.Logic.{◌≢◌}
 use native.Mathlib.Omega.{arith}
@@ -33,7 +33,7 @@ record Agrees (n : ℕ) (under : ℕ → Category → Bool) (Y : Offers) (now : 
   some : (p : ℕ) → p < n → get_or now.done.given p 0 ≢ 0 → (c : Category) × (under (get_or now.done.given p 0) c ≡ true)
 
 gone_taken : (l s t : Bool) → s ≡ true → t ≡ true → (l && not (s && t)) ≡ false
-gone_taken l s t e f = rw (e, f) (and_false l)
+gone_taken l s t e f = rw (e, f) (and-false l)
 
 noted_taken : (s y l : Bool) → (s ≡ true → y ≡ true) → (s ≡ false → (y && not l) ≡ false) → s ≡ (y && not (l && not (s && true)))
 noted_taken true y true f g = rw (f refl)

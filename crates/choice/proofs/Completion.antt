@@ -2,7 +2,7 @@
 -- that the choice itself lacks: more offers keep out what was kept out, and take no fewer.
 use Prim.Native.Nat.{ℕ, zero, suc, ◌+◌, ◌-◌, ◌≤◌, ◌<◌, min}
 use mathlib.Core.Path.{◌≡◌, refl, sym, ◌∙◌, ap}
-use mathlib.Core.Bool.{Bool, true, false, cond, not, ◌&&◌, ◌||◌, and_true}
+use mathlib.Core.Bool.{Bool, true, false, cond, not, ◌&&◌, ◌||◌, and-true}
 use mathlib.Core.List.{List, [], ◌∷◌}
 use native.Mathlib.Omega.{arith}
 use lib.Dec.{eqb, ltb}
@@ -97,7 +97,7 @@ cond_mono false v v' h = omega arith
 -- a part of the set leaves it, or nothing does
 count_leaving : (n : ℕ) (X T : ℕ → Bool) (b : Bool) → (b ≡ true → (p : ℕ) → p < n → T p ≡ true → X p ≡ true) → count_of n (λ p. X p && not (b && T p)) + cond b (count_of n T) 0 ≡ count_of n X
 count_leaving n X T true s = omega (arith, count_split n X T (s refl))
-count_leaving n X T false s = omega (arith, count_ext n (λ p. X p && true) X (λ p l. and_true (X p)))
+count_leaving n X T false s = omega (arith, count_ext n (λ p. X p && true) X (λ p l. and-true (X p)))
 
 one_category : (c : Category) (t : ℕ) → cond (same Open c) t 0 + cond (same SC c) t 0 + cond (same ST c) t 0 + cond (same OBC c) t 0 + cond (same EWS c) t 0 ≡ t
 one_category Open t = omega arith

@@ -1,7 +1,7 @@
 -- The law of filling: a step that takes by a taking rule, and gives the positions left by merit, has the laws of the rule. Dropping considered places that a rule leaves out changes nothing.
 use Prim.Native.Nat.{ℕ, ◌+◌, ◌≤◌, ◌<◌, min}
 use mathlib.Core.Path.{◌≡◌, refl, sym, ◌∙◌}
-use mathlib.Core.Bool.{Bool, true, false, not, ◌&&◌, ◌||◌, and_true}
+use mathlib.Core.Bool.{Bool, true, false, not, ◌&&◌, ◌||◌, and-true}
 use native.Mathlib.Omega.{arith}
 use lib.Dec.{ltb}
 use borrow.Author.Tests.{ltb-true, ltb-false, lt-ltb, le-ltb}
@@ -125,4 +125,4 @@ module _ (n : ℕ) (H : (ℕ → Bool) → ℕ → Bool) (X : ℕ → Bool) (q p
       only : (h x t : Bool) → ((x && not h) && t) ≡ ((h || ((x && not h) && t)) && not h)
       only true true t = refl
       only true false t = refl
-      only false x t = sym (and_true ((x && true) && t))
+      only false x t = sym (and-true ((x && true) && t))

@@ -1,7 +1,7 @@
 -- Filling by merit, one place after the other: what is known at place p, and how it goes on in each case.
 use Prim.Native.Nat.{ℕ, ◌+◌, ◌≤◌, ◌<◌, min}
 use mathlib.Core.Path.{◌≡◌, refl, sym, ap, ◌∙◌}
-use mathlib.Core.Bool.{Bool, true, false, cond, ◌&&◌, and_false}
+use mathlib.Core.Bool.{Bool, true, false, cond, ◌&&◌, and-false}
 use mathlib.Core.List.{List}
 use native.Mathlib.Omega.{arith}
 use native.Mathlib.Numerals.{add-one}
@@ -78,7 +78,7 @@ module _ (number code free : ℕ) (offers placed given used₀ : List ℕ) where
     by_type some el eu ev ec =
         let there : 0 < get_or placed p 0 = omega (arith, some) in
         let typed : ltb 0 (get_or placed p 0) ≡ true = lt-ltb 0 _ there in
-        let out : rest p ≡ false = rw typed (and_false (X p)) in
+        let out : rest p ≡ false = rw typed (and-false (X p)) in
         rw (el, eu, ev, ec)
         record {
           number_filled = omega (arith, k.number_filled, one_more 0 (bit_false (rest p) out));
@@ -127,11 +127,11 @@ module _ (number code free : ℕ) (offers placed given used₀ : List ℕ) where
       pub no_room : {l u : List ℕ} {v c : ℕ} → free ≤ filled → l ≡ steps → u ≡ used → v ≡ filled → c ≡ closing → Filled number code free offers placed given used₀ l u v c (p + 1)
       no_room z el eu ev ec =
           let full : ltb (count_of p rest) free ≡ false = le-ltb (count_of p rest) free (omega (arith, k.number_filled)) in
-          let nobody : seats_at placed X free p ≡ false = rw (untyped, full) (and_false (X p && true)) in
+          let nobody : seats_at placed X free p ≡ false = rw (untyped, full) (and-false (X p && true)) in
           rw (el, eu, ev, ec)
           record {
             number_filled = omega (arith, k.number_filled, one_more (bit (rest p)) refl);
-            closes = not_closing (rw full (and_false (rest p)));
+            closes = not_closing (rw full (and-false (rest p)));
             written = keep given steps _ p k.written (sym (ap (λ (b : Bool). cond b number (get_or given p 0)) nobody));
             used_written = unused;
           }

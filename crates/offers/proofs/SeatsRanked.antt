@@ -1,7 +1,7 @@
 -- Where a listed seat stands in its holder's row, by the bytes of the list.
 use Prim.Native.Nat.{ℕ, suc, ◌+◌, ◌*◌, ◌-◌, ◌≤◌, ◌<◌}
 use mathlib.Core.Path.{◌≡◌, refl, sym, ◌∙◌, ap}
-use mathlib.Core.Bool.{Bool, true, false, not, and_false}
+use mathlib.Core.Bool.{Bool, true, false, not, and-false}
 use mathlib.Core.List.{List}
 use native.Mathlib.Omega.{arith}
 use lib.Dec.{leb, ltb}
@@ -84,7 +84,7 @@ module _ {file : List ℕ} {o : Opened} {row starts list : List ℕ} (at : Under
       pub above_no_step : not b ≡ true → {x : ℕ} → x ≡ length (row_at r i) → x ≡ above r seats i
       unfolding above is_step
       above_no_step f e =
-          e ∙ sym (rank_none r i (seat_on seats i) (rw (bytes_seat, ← reads, ← last-is, within_no 1 last reads-step told-step f) (and_false (within 1 (institute_count r) number))))
+          e ∙ sym (rank_none r i (seat_on seats i) (rw (bytes_seat, ← reads, ← last-is, within_no 1 last reads-step told-step f) (and-false (within 1 (institute_count r) number))))
 
       -- both are
       pub above_step : not a ≡ false → not b ≡ false → {x : ℕ} {c : Category} → c ≡ category_at r (number - 1) step

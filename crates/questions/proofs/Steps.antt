@@ -1,7 +1,7 @@
 -- Laws of the steps in an institute's body: their width, and that they lie within the body.
 use Prim.Native.Nat.{ℕ, suc, ◌+◌, ◌*◌, ◌/◌, ◌≤◌, ◌<◌}
 use mathlib.Core.Path.{◌≡◌, sym, ◌∙◌}
-use mathlib.Core.Bool.{Bool, true, false, cond, ◌&&◌, ◌||◌, and_false}
+use mathlib.Core.Bool.{Bool, true, false, cond, ◌&&◌, ◌||◌, and-false}
 use mathlib.Core.List.{List}
 use native.Mathlib.Omega.{arith}
 use native.Mathlib.Nat.{mul-le-mul, mul-le-mul_right, suc-mul}
@@ -95,7 +95,7 @@ pub six_gets : (policy k : ℕ) → policy ≡ 1 → eqb k 3 ≡ true → ◌≡
 six_gets policy k e d = rw (e, d)
 
 pub none_gets : (policy k : ℕ) → eqb k 3 ≡ false → ◌≡◌ {A = ℕ} 0 (cond (eqb policy 1 && eqb k 3) 6 0)
-none_gets policy k d = rw (d, and_false)
+none_gets policy k d = rw (d, and-false)
 
 pub none_hands_on : (policy k : ℕ) → (policy ≡ 1 → ⊥) → ◌≡◌ {A = ℕ} 0 (cond (eqb policy 1 && eqb k 3) 6 0)
 none_hands_on policy k n = rw (ne_eqb policy 1 n)

@@ -1,7 +1,7 @@
 -- The tables with one entry more have the listed seats and that entry.
 use Prim.Native.Nat.{ℕ, zero, suc, ◌+◌, ◌^◌, ◌/◌, ◌%◌, ◌<◌}
 use mathlib.Core.Path.{◌≡◌, refl, ◌∙◌, ap, fun_ext}
-use mathlib.Core.Bool.{◌&&◌, ◌||◌, or_false}
+use mathlib.Core.Bool.{◌&&◌, ◌||◌, or-false}
 use mathlib.Core.List.{List}
 use mathlib.Core.Logic.{◌≢◌}
 use native.Mathlib.Omega.{arith}
@@ -91,7 +91,7 @@ module _ {r : Round} {seats : List Seat} {asked wanted : List ℕ} (read : Seats
           rw (e, eq-eqb i i refl, offer_put (suc j) i v asked wanted a w, holds_or, holds_only)
 
       other : k ≢ i → offers_with j i c asked wanted k d ≡ (offers_by (offer_to (suc j) asked wanted) k d || (eqb k i && same_category c d))
-      other n = rw (offer_kept (suc j) i v asked wanted k n, ne_eqb k i n, or_false)
+      other n = rw (offer_kept (suc j) i v asked wanted k n, ne_eqb k i n, or-false)
 
   pub offers_added : (j : ℕ) (c : Category) → offers_with j i c asked wanted ≡ with_entry r seats j i c
   offers_added j c = fun_ext (λ k. fun_ext (λ d. offer_added j c k d))

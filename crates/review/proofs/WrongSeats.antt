@@ -1,7 +1,7 @@
 -- The seats that are wrong by the bytes of the list and the tables are those that are wrong by the seats and the steps due.
 use Prim.Native.Nat.{ℕ, suc, ◌-◌, ◌<◌}
 use mathlib.Core.Path.{◌≡◌, sym, ◌∙◌, ap}
-use mathlib.Core.Bool.{true, false, not, ◌&&◌, and_false}
+use mathlib.Core.Bool.{true, false, not, ◌&&◌, and-false}
 use mathlib.Core.Logic.{◌≢◌}
 use mathlib.Core.List.{List}
 use native.Mathlib.Omega.{arith}
@@ -37,7 +37,7 @@ module _ (s : Seat) {institute : ℕ} (reads : institute ≡ s.institute) where
 
   module _ {step : ℕ} (reads-step : step ≡ s.step) where
     pub some_step : eqb step 0 ≡ false → SomeSeat s
-    some_step f = record { some = rw (← reads-step, f) (and_false (eqb s.institute 0)) }
+    some_step f = record { some = rw (← reads-step, f) (and-false (eqb s.institute 0)) }
 
     pub no_seat_lem : institute ≡ 0 → eqb step 0 ≡ true → is_none s ≡ true
     no_seat_lem e t = rw (← reads-step, eq-eqb s.institute 0 (sym reads ∙ e), t)

@@ -1,7 +1,7 @@
 -- The process as it goes from sweep to sweep: turns have led to what is tried, and the tables hold the entries tried last and their steps.
 use Prim.Native.Nat.{ℕ, zero, suc, ◌+◌, ◌*◌, ◌-◌, ◌^◌, ◌≤◌, ◌<◌}
 use mathlib.Core.Path.{◌≡◌, refl, sym, ◌∙◌, ap, subst}
-use mathlib.Core.Bool.{Bool, true, false, cond, not, ◌&&◌, and_false}
+use mathlib.Core.Bool.{Bool, true, false, cond, not, ◌&&◌, and-false}
 use mathlib.Core.Logic.{◌≢◌, inl, inr}
 use mathlib.Core.List.{List}
 use native.Mathlib.Omega.{arith}
@@ -60,7 +60,7 @@ none_by asked steps i = go (eqb (get_or steps i 0) 0)
   where
     go : (b : Bool) → (eqb (cond b 0 (get_or asked i 0)) 0 && b) ≡ b
     go true = refl
-    go false = and_false (eqb (get_or asked i 0) 0)
+    go false = and-false (eqb (get_or asked i 0) 0)
 
 seat_some : (k j : ℕ) → cond (eqb k 0) no_seat (record { institute = suc j; step = k }) ≡ record { institute = cond (eqb k 0) 0 (suc j); step = k }
 seat_some k j = same_or k 0 (λ e. rw e) (λ d. rw (ne_eqb k 0 d))

@@ -1,7 +1,7 @@
 -- The entry that a candidate tried last, as the tables have it.
 use Prim.Native.Nat.{ℕ, suc, ◌^◌, ◌<◌}
 use mathlib.Core.Path.{◌≡◌, refl, sym, ◌∙◌}
-use mathlib.Core.Bool.{Bool, true, false, cond, not, ◌&&◌, and_false}
+use mathlib.Core.Bool.{Bool, true, false, cond, not, ◌&&◌, and-false}
 use mathlib.Core.Logic.{◌≢◌, ◌⊎◌, inl, inr}
 use mathlib.Core.List.{List}
 use native.Mathlib.Omega.{arith}
@@ -90,4 +90,4 @@ offer_some {asked = asked} {i = i} (inr k) j e z = only_some k.category (rw (eq-
 -- who asked another institute takes no part
 pub no_part : (r : Round) (j : ℕ) (asked wanted : List ℕ) (c : ℕ) → get_or asked c 0 ≢ suc j → takes_part r j (offer_to (suc j) asked wanted) c ≡ false
 unfolding takes_part offer_to
-no_part r j asked wanted c n = rw (ne_eqb (get_or asked c 0) (suc j) n) (and_false (ltb (place_on r j c) (length (institute_at r j).merit)))
+no_part r j asked wanted c n = rw (ne_eqb (get_or asked c 0) (suc j) n) (and-false (ltb (place_on r j c) (length (institute_at r j).merit)))
