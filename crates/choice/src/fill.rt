@@ -9,7 +9,7 @@ ghost use Rattle.lists.specs.Lists.{last_of};
 use placing::take::considers;
 
 // How many got a position by merit, and the largest place of theirs, from 1; 0 for nobody.
-#[derive(Drop)]
+#[derive(Clone, Copy)]
 pub struct ByMerit {
     pub filled: usize,
     pub closing: usize,

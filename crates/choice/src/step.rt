@@ -9,7 +9,7 @@ use types::first::take_typed;
 
 // What a step comes to: its positions, how many it took for use and how many by merit, the positions that it leaves vacant, and its closing
 // place.
-#[derive(Drop)]
+#[derive(Clone, Copy)]
 pub struct Numbers {
     pub positions: usize,
     pub used: usize,

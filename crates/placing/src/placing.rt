@@ -7,7 +7,7 @@ use crate::left::settle;
 use lists::word::from_byte;
 
 // What a search comes to: the type that was found, or nothing.
-#[derive(Drop)]
+#[derive(Clone, Copy)]
 pub enum Found {
     At(usize),
     Nothing,

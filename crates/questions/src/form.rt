@@ -6,7 +6,7 @@ ghost use Rattle.questions.specs.Records.{form_of};
 use lists::word::word;
 
 // The form of a file, and so of the seats of its round.
-#[derive(Drop)]
+#[derive(Clone, Copy)]
 pub enum Form {
     Narrow,
     Wide,

@@ -7,7 +7,7 @@ use crate::form::{Form, form_kind, institutes_most};
 use lists::word::{within, word};
 
 // The form of a file and the numbers of its round: candidates n, institutes m, horizontal types L, policy.
-#[derive(Drop)]
+#[derive(Clone, Copy)]
 pub struct Head {
     pub form: Form,
     pub n: usize,

@@ -6,7 +6,7 @@ ghost use Rattle.round.specs.Changed as changed;
 use questions::head::Head;
 
 // How the opened round differs from the file's. Candidates, institutes and places have numbers from 0.
-#[derive(Drop)]
+#[derive(Clone, Copy)]
 pub enum Change {
     Nothing,
     Row {
@@ -20,7 +20,7 @@ pub enum Change {
 }
 
 // The file's form and numbers, and the change.
-#[derive(Drop)]
+#[derive(Clone, Copy)]
 pub struct Opened {
     pub head: Head,
     pub change: Change,

@@ -9,7 +9,7 @@ use questions::form::{Form, form_of};
 use questions::head::{Head, head_in};
 
 // What reading a file comes to: its form and the numbers of its round, or the first question answered no and its byte.
-#[derive(Drop)]
+#[derive(Clone, Copy)]
 pub enum Reading {
     Read(Head),
     Refused { number: usize, offset: usize },
@@ -29,7 +29,7 @@ fn refusal_of(got: Part) -> Reading
 }
 
 // The number of the first question answered no, and its byte.
-#[derive(Drop)]
+#[derive(Clone, Copy)]
 pub struct Refusal {
     pub number: usize,
     pub offset: usize,

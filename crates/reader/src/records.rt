@@ -13,7 +13,7 @@ use questions::institute::{ask_institute, step_width};
 use questions::merit::ask_merit;
 
 // What reading some records comes to: all are as due and end before a byte, or a question was answered no.
-#[derive(Drop)]
+#[derive(Clone, Copy)]
 pub enum Part {
     Lawful { end: usize },
     Refused { number: usize, offset: usize },

@@ -10,7 +10,7 @@ use round::entry::Entry;
 
 // The answer of a review: the list passes; a candidate has a seat that is not in the row or a step that the institute does not give; an
 // entry above a candidate's seat would be chosen; or the number of the refusal with its byte.
-#[derive(Drop)]
+#[derive(Clone, Copy)]
 pub enum Judgement {
     Passes,
     WrongSeat { candidate: usize },

@@ -3,7 +3,7 @@ ghost use Rattle.std.specs.Prelude.{◌≡◌, ◌^◌};
 ghost use Rattle.round.specs.Category.{code_of, category_of};
 
 // The five categories; `Open` of a candidate is the general category.
-#[derive(Drop)]
+#[derive(Clone, Copy)]
 pub enum Category {
     Open,
     SC,
@@ -13,7 +13,7 @@ pub enum Category {
 }
 
 // An entry: the number of an institute, and a category there.
-#[derive(Drop)]
+#[derive(Clone, Copy)]
 pub struct Entry {
     pub institute: usize,
     pub category: Category,
