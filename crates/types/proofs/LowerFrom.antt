@@ -6,7 +6,7 @@ use mathlib.Core.Logic.{◌≢◌}
 use native.Mathlib.Omega.{arith}
 use lib.Dec.{eqb}
 use lib.ListN.{length, get_or, set, take, drop, replicate, length-set, length-drop, drop_of_length-le, get_or-append, get_or-eq_default}
-use lib.Seq.{get_or-set_same, get_or-set_other, get_or-take, get_or-drop, drop_at, take_all, ext_get_or, length-take-le}
+use lib.Seq.{get_or-set_same, get_or-set_other, get_or-take, get_or-drop, drop_at, take_all, length-take-le}
 use borrow.Author.Tests.{eqb-true, eq-eqb}
 use Rattle.lists.specs.Lists.{count_of}
 use Rattle.matching.specs.Use.{one_less, Placing}

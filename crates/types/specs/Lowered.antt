@@ -1,5 +1,5 @@
 -- How the types become smaller: a place gets the smallest type that it has in any placing of the same places, and keeps it.
-use Rattle.std.specs.Prelude.{ℕ, suc, ◌-◌, ◌≤◌, ◌<◌, ◌≡◌, Bool, true, List, ltb, length, get_or, set, drop}
+use Rattle.std.specs.Prelude.{ℕ, suc, ◌-◌, ◌≤◌, ◌<◌, ◌≡◌, Bool, true, List, length, get_or, set, drop}
 use Rattle.lists.specs.Lists.{count_of}
 use Rattle.lists.specs.Numbers.{holds}
 use Rattle.matching.specs.Use.{one_less, Placing}
