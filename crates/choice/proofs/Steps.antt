@@ -6,8 +6,8 @@ use mathlib.Core.List.{List, [], ◌∷◌, ◌++◌}
 use native.Mathlib.Omega.{arith}
 use lib.Dec.{ltb}
 use lib.ListN.{length, get_or, take, drop, replicate, length-replicate}
-use lib.Seq.{take_at, length-take-le, length_front, ext_get_or}
-use borrow.Author.Tests.{lt-ltb, le-ltb, ltb-false}
+use lib.Seq.{take_at, length-take-le, length_front}
+use borrow.Author.Tests.{lt-ltb, le-ltb}
 use Rattle.lists.specs.Lists.{count_of, bit}
 use Rattle.matching.specs.ForUse.{taken_for_use}
 use Rattle.choice.specs.Step.{remaining, taken_by_merit, taken}

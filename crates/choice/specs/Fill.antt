@@ -1,7 +1,7 @@
 -- The places that a step gives its number to, by the types given on the way down and the positions left (document 01, "One
 -- institute chooses": "Then fill the remaining positions by merit with those left, marked or not."), and the types of those taken for use;
 -- the numbers of a step.
-use Rattle.std.specs.Prelude.{ℕ, suc, ◌-◌, Bool, cond, not, ◌&&◌, ◌||◌, List, [], ◌∷◌, ltb, length, get_or}
+use Rattle.std.specs.Prelude.{ℕ, ◌-◌, Bool, cond, not, ◌&&◌, ◌||◌, List, [], ◌∷◌, ltb, length, get_or}
 use Rattle.lists.specs.Lists.{tabulate, count_of, last_of}
 use Rattle.choice.specs.declared.step as code
 use Rattle.matching.specs.ForUse.{taken_for_use}
