@@ -1,5 +1,5 @@
 -- The reader's values in the words of the definitions, and what its parts are called with.
-use Rattle.std.specs.Prelude.{ℕ, suc, ◌+◌, ◌*◌, ◌^◌, ◌≤◌, ◌<◌, Bool, ◌&&◌, ◌||◌, List, leb, eqb, length, get_or, replicate, ◌≡◌}
+use Rattle.std.specs.Prelude.{ℕ, suc, ◌*◌, ◌^◌, ◌≤◌, ◌<◌, Bool, ◌&&◌, ◌||◌, List, leb, eqb, length, get_or, replicate, ◌≡◌}
 use Rattle.questions.specs.declared.head.Head.{Head}
 use Rattle.questions.specs.declared.form.Form.{Form}
 use Rattle.questions.specs.Form.{institutes_most}

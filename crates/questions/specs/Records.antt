@@ -1,6 +1,6 @@
 -- The records of a file (document 01, "Round file"; document 02, Points 6 and 7): where each starts, its body, the form of the file, the numbers of
 -- the head and the kinds that they make due.
-use Rattle.std.specs.Prelude.{ℕ, zero, suc, ◌+◌, ◌*◌, Bool, cond, ◌&&◌, List, ◌++◌, leb, eqb, length, get_or, take, drop, replicate}
+use Rattle.std.specs.Prelude.{ℕ, zero, suc, ◌+◌, Bool, cond, ◌&&◌, List, ◌++◌, leb, eqb, length, take, drop, replicate}
 use Rattle.questions.specs.declared.head.Head.{Head}
 use Rattle.questions.specs.declared.form.Form.{Form}
 use Rattle.questions.specs.declared.form.Form.TheVariants.{Narrow, Wide}
