@@ -1,6 +1,6 @@
 -- The rules of an institute's steps as one table of numbers, a row for each step: the code of its category, the step that gets its
 -- vacancies, its own positions, and those of them that are reserved for types 1 to L.
-use Rattle.std.specs.Prelude.{ℕ, zero, suc, ◌+◌, ◌*◌, ◌≤◌, ◌<◌, ◌≡◌, List, length, get_or}
+use Rattle.std.specs.Prelude.{ℕ, ◌+◌, ◌*◌, ◌≤◌, ◌<◌, List, length, get_or}
 use Rattle.round.specs.Category.{category_of}
 use Rattle.lists.specs.Lists.{tabulate}
 use Rattle.round.specs.Round.{StepRule}

@@ -5,18 +5,10 @@ use mathlib.Core.Logic.{◌≢◌}
 use borrow.Author.Tests.{ne_eqb}
 use Rattle.round.specs.declared.entry.Category.TheVariants.{Open}
 use Rattle.round.specs.Category.{category_of}
-use Rattle.round.proofs.entry.category_of.Statement.{statement}
-use Rattle.round.proofs.entry.category_of.Tie as tie
+use Rattle.round.proofs.entry.category_of.Goals as goal
 
 no_code : (code : ℕ) → code ≢ 1 → code ≢ 2 → code ≢ 3 → code ≢ 4 → Open ≡ category_of code
 no_code code a b c d = rw (ne_eqb code 1 a, ne_eqb code 2 b, ne_eqb code 3 c, ne_eqb code 4 d)
 
-pub category-of-spec : {M : Type 1} → statement M
-category-of-spec =
-    tie.close
-    (tie.spec
-    (λ c. rw c.match.keys1)
-    (λ c. rw c.match.keys2)
-    (λ c. rw c.match.keys3)
-    (λ c. rw c.match.keys4)
-    (λ c. search no_code))
+pub returns-in_default : goal.returns-in_default
+returns-in_default c = search no_code
