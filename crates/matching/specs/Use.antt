@@ -1,5 +1,5 @@
 -- The use of a set of candidates (document 01, "One institute chooses": "The use of a set of candidates is ..").
-use Rattle.std.specs.Prelude.{ℕ, suc, ◌-◌, ◌/◌, ◌%◌, ◌^◌, ◌≤◌, ◌<◌, max, ◌≡◌, Bool, true, cond, ◌&&◌, List, [], ◌∷◌, eqb, ltb, length, get_or, set}
+use Rattle.std.specs.Prelude.{ℕ, suc, ◌-◌, ◌≤◌, ◌<◌, max, ◌≡◌, Bool, true, cond, ◌&&◌, List, [], ◌∷◌, eqb, ltb, length, get_or, set}
 use Rattle.lists.specs.Lists.{count_of, greatest_of}
 use Rattle.lists.specs.Numbers.{holds}
 
