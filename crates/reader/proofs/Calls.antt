@@ -15,7 +15,7 @@ use Rattle.questions.specs.Refusal.{Verdict, passes, verdict}
 use Rattle.questions.specs.Reading.{round_of}
 use Rattle.reader.specs.Outcome.{verdict_of, RoundRead}
 use Rattle.reader.specs.Opened.{opened_round, unchanged, OpenedFile}
-use Rattle.reader.specs.Calls.{Outcome, said, refused, on_file, asks, work_by, refusal_in}
+use Rattle.reader.specs.Calls.{Outcome, said, on_file, asks, work_by, refusal_in}
 use Rattle.reader.proofs.Bodies.{at_hand, own_round}
 
 module _ {A : Type 0} where
