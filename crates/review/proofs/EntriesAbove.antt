@@ -19,7 +19,6 @@ use Rattle.offers.specs.Offers.{OfferSet, step_for, taken_from}
 use Rattle.offers.specs.Process.{Seat, candidate_count, institute_count}
 use Rattle.offers.specs.Rows.{row_at, same_category, category_at}
 use Rattle.offers.proofs.Rounds.Agreed.{step_number}
-use Rattle.offers.proofs.Known.{candidates_many, institutes_many, round_sound}
 use Rattle.reader.specs.Calls.{said}
 use Rattle.review.specs.Finding.{passes, better_entry, would_take, best, better, entry_finding}
 use Rattle.offers.specs.Listed.{above}
@@ -28,6 +27,7 @@ use Rattle.review.specs.Tables.{offers_with}
 use Rattle.offers.proofs.InRow.{above_within}
 use Rattle.offers.proofs.FirstFound.{PassedOver, one_failed, found, none_found}
 use Rattle.review.proofs.EntryAdded.{offers_added}
+use Rattle.review.proofs.Named.{candidates_many, institutes_many, round_sound}
 
 -- tables that are as they were
 pub read_still : {r : Round} {seats : List Seat} {asked₀ wanted₀ asked wanted : List ℕ} → SeatsRead r seats (candidate_count r) asked₀ wanted₀
@@ -39,13 +39,10 @@ abbrev pub takes_at : Round → List Seat → ℕ → ℕ → Bool
 takes_at r seats i k = would_take r seats i (entry_at (candidate_at r i) k)
 
 -- of the entry at place k of candidate i's row, as the code has read it
-module _ {file : List ℕ} {o : Opened} {row starts : List ℕ} (hand : OpenedFile file o row starts) {i k : ℕ} {entry : Entry} (inside : i < o.head.n)
-    (within : k < length (row_at (opened_round file o row) i)) (reads : entry ≡ entry_at (candidate_at (opened_round file o row) i) k) where
-  abbrev r : Round
-  r = opened_round file o row
-
+module _ {file : List ℕ} {o : Opened} {row starts : List ℕ} (hand : OpenedFile file o row starts) {r : Round} (opens : opened_round file o row ≡ r)
+    {i k : ℕ} {entry : Entry} (inside : i < o.head.n) (within : k < length (row_at r i)) (reads : entry ≡ entry_at (candidate_at r i) k) where
   sound_row : SoundRow (institute_count r) (candidate_at r i).category (row_at r i)
-  sound_row = ((round_sound hand).candidate i (omega (arith, candidates_many hand))).row_sound
+  sound_row = ((round_sound hand opens).candidate i (omega (arith, candidates_many hand opens))).row_sound
 
   pub institute_least : 1 ≤ entry.institute
   institute_least = rw reads (sound_row.entry_from k within)
@@ -54,14 +51,14 @@ module _ {file : List ℕ} {o : Opened} {row starts : List ℕ} (hand : OpenedFi
   institute_most = rw reads (sound_row.entry_to k within)
 
   pub institute_inside : entry.institute - 1 < o.head.m
-  institute_inside = omega (arith, institute_least, institute_most, institutes_many hand)
+  institute_inside = omega (arith, institute_least, institute_most, institutes_many hand opens)
 
   -- the step that is given where it is added has a number
   pub step_numbered : (Y : OfferSet) {step number : ℕ} → step ≡ step_for r (entry.institute - 1) Y i → number ≡ step → number ≤ step_numbers r (entry.institute - 1)
   step_numbered Y s n =
       let j : ℕ = entry.institute - 1 in
-      let below : j < institute_count r = omega (arith, institute_inside, institutes_many hand) in
-      omega (arith, s, n, step_number r j Y i, (round_sound hand).numbered j below)
+      let below : j < institute_count r = omega (arith, institute_inside, institutes_many hand opens) in
+      omega (arith, s, n, step_number r j Y i, (round_sound hand opens).numbered j below)
 
   -- by that step, whether it would be chosen
   pub would_be_taken : {seats : List Seat} {asked wanted : List ℕ} → SeatsRead r seats (candidate_count r) asked wanted → {step number : ℕ} {result : Bool}
@@ -71,7 +68,7 @@ module _ {file : List ℕ} {o : Opened} {row starts : List ℕ} (hand : OpenedFi
   would_be_taken {seats} read {result = result} s n t = here ∙ ap (would_take r seats i) reads
     where
       here : result ≡ would_take r seats i entry
-      here = t ∙ rw (n, s, offers_added read i (omega (arith, candidates_many hand)) (entry.institute - 1) entry.category)
+      here = t ∙ rw (n, s, offers_added read i (omega (arith, candidates_many hand opens)) (entry.institute - 1) entry.category)
 
 pub above_fits : (r : Round) (seats : List Seat) (i : ℕ) {size : ℕ} → size ≡ above r seats i → size ≤ length (row_at r i)
 above_fits r seats i e = rw e (above_within r seats i)

@@ -1,5 +1,5 @@
 -- What a review answers and what it leaves in the work area (document 02, Points 5 to 7), for every input.
-use Rattle.std.specs.Prelude.{ℕ, ◌*◌, ◌≡◌, List, eqb, leb, length}
+use Rattle.std.specs.Prelude.{ℕ, ◌≡◌, List, eqb, leb, length}
 use Rattle.questions.specs.declared.form.Form.{Form}
 use Rattle.round.specs.Round.{Round}
 use Rattle.questions.specs.Records.{form_of}

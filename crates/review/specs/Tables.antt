@@ -1,6 +1,6 @@
 -- What the review's tables hold: the listed seats that are in their rows, as offers (for each candidate the number of an institute, 0 for none, and
 -- a set of categories, bit c for code c), and the steps that the institutes give.
-use Rattle.std.specs.Prelude.{ℕ, suc, ◌*◌, ◌-◌, ◌^◌, ◌≤◌, ◌<◌, ◌≡◌, Bool, true, false, not, ◌&&◌, List, eqb, length, get_or, set}
+use Rattle.std.specs.Prelude.{ℕ, suc, ◌^◌, ◌<◌, ◌≡◌, Bool, not, ◌&&◌, List, eqb, length, get_or, set}
 use Rattle.std.specs.Int.Bits.{bit_or}
 use Rattle.round.specs.declared.entry.Category.{Category}
 use Rattle.questions.specs.declared.form.Form.{Form}
