@@ -10,7 +10,6 @@ use lib.ListN.{length, get_or}
 use borrow.Author.Tests.{lt-ltb, le-leb, ne_eqb}
 use Rattle.round.specs.declared.entry.Category.{Category}
 use Rattle.round.specs.Round.{Round}
-use Rattle.lists.specs.Numbers.{within}
 use Rattle.round.specs.Sound.{Sound}
 use Rattle.round.specs.Places.{step_numbers}
 use Rattle.offers.specs.Rows.{row_at, rank_in, entry_of, category_at}
