@@ -1,6 +1,6 @@
 -- The accounts when the process has ended: each institute chooses once more, from its seats. By law its account is that of its choice from all offers
 -- ever made to it.
-use Rattle.std.specs.Prelude.{ℕ, suc, ◌^◌, ◌<◌, ◌≡◌, ◌≢◌, List, length, get_or}
+use Rattle.std.specs.Prelude.{ℕ, suc, ◌<◌, ◌≡◌, ◌≢◌, List, length, get_or}
 use Rattle.round.specs.Round.{Round}
 use Rattle.choice.specs.Noted.{noted_of}
 use Rattle.offers.specs.Offers.{account_on, type_for}

@@ -1,0 +1,60 @@
+-- `sweeps::accounts::account_anew` meets its contract: the types used are put into the table. Assumes nothing.
+use Prim.Native.Nat.{◌≤◌}
+use mathlib.Core.Path.{◌≡◌, refl, sym, ◌∙◌}
+use native.Mathlib.Omega.{arith}
+use lib.ListN.{length, take}
+use lib.Seq.{length-take-le}
+use Rattle.offers.proofs.Known.{zeros_room, candidates_many}
+use Rattle.sweeps.proofs.ChoicesMade.{who_apart, types_put}
+use borrow.Author.Rules.{rules}
+use Rattle.choice.proofs.Steps.{sized}
+use Rattle.sweeps.proofs.accounts.account_anew.Given.{Over}
+use Rattle.sweeps.proofs.accounts.account_anew.Goals as goal
+use Rattle.sweeps.proofs.accounts.account_anew.Goals.{After-choose_listed-k}
+
+-- those who take part stand at the front of each table
+module _ {g : Over} (c : After-choose_listed-k g) where
+  who-fits : c.choose_listed-k.result ≤ length c.choose_listed-k.new.who
+  who-fits = search rules
+
+  who-long : length (take c.choose_listed-k.result c.choose_listed-k.new.who) ≡ c.choose_listed-k.result
+  who-long = length-take-le c.choose_listed-k.result c.choose_listed-k.new.who who-fits
+
+  used-fits : c.choose_listed-k.result ≤ length c.choose_listed-k.new.used
+  used-fits = search rules
+
+  used-long : length (take c.choose_listed-k.result c.choose_listed-k.new.used) ≡ c.choose_listed-k.result
+  used-long = length-take-le c.choose_listed-k.result c.choose_listed-k.new.used used-fits
+
+  places-long : 512 ≤ length c.choose_listed-k.new.places
+  places-long = search rules
+
+pub choose_listed-k-requires : goal.choose_listed-k-requires
+choose_listed-k-requires g c =
+    (refl, (search rules, (search rules, (search rules, ((search zeros_room, search zeros_room, search zeros_room), (λ f. search zeros_room, λ f. search rules))))))
+
+pub place_closings-requires : goal.place_closings-requires
+place_closings-requires g c =
+    let l = (goal.at.place_closings-requires g c).After-choose_listed-k in
+    let got = c.choose_listed-k.ensures in
+    (search rules ∙ sized 60 c.requires.1.1.1.1, λ k m. omega (arith, got.few, got.noted_few refl k m, places-long l))
+
+pub slice_bounds-scatter-end : goal.slice_bounds-scatter-end
+slice_bounds-scatter-end g c = sym (who-long (goal.at.slice_bounds-scatter-end g c).After-choose_listed-k)
+
+pub slice_bounds-scatter-end-2 : goal.slice_bounds-scatter-end-2
+slice_bounds-scatter-end-2 g c = sym (used-long (goal.at.slice_bounds-scatter-end-2 g c).After-choose_listed-k)
+
+pub scatter-requires : goal.scatter-requires
+scatter-requires g c =
+    let l = (goal.at.scatter-requires g c).After-choose_listed-k in
+    (used-long l ∙ sym (who-long l), who_apart c.choose_listed-k.ensures (candidates_many c.requires.1.0 ∙ omega arith) (who-fits l))
+
+pub returns : goal.returns
+returns g c =
+    let l = (goal.at.returns g c).After-choose_listed-k in
+    rw (← c.requires.0)
+    record {
+      typed = types_put c.choose_listed-k.ensures refl (who-fits l) c.scatter.ensures;
+      numbers = c.choose_listed-k.ensures.noted_as refl _ c.place_closings.ensures;
+    }
