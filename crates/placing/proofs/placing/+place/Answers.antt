@@ -64,9 +64,6 @@ as_ended t c f e =
 cleared_at : (t : ℕ) (c : In-At t) → let a = c.args in Cleared a.reserved.now a.marks.now a.visited.now a.placed.now c.loop-t-test.placed a.c c.in-At.t
 cleared_at t c = as_ended t (goal.at.In-At t c).Left-loop-t (At c.in-At.t) c.in-At.is
 
-pub search-init : goal.search-init
-search-init t c = search rules
-
 pub loop-t-init : goal.loop-t-init
 loop-t-init t c =
     (search rules, search rules, search rules, search rules, cc, left_by c.search.invariant.2 c.search.invariant.0 c.requires.positions, search rules)
