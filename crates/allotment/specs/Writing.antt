@@ -1,5 +1,5 @@
 -- What the functions that write the answer area speak of: the seats that two arrays hold, and the closing places in the numbers of an account.
-use Rattle.std.specs.Prelude.{ℕ, ◌+◌, ◌*◌, ◌≤◌, ◌<◌, Bool, List, length, get_or}
+use Rattle.std.specs.Prelude.{ℕ, ◌+◌, ◌*◌, Bool, List, get_or}
 use Rattle.lists.specs.Lists.{tabulate, joined}
 use Rattle.offers.specs.Areas.{word_bytes}
 use Rattle.allotment.specs.Areas.{closing_count}
