@@ -1,5 +1,5 @@
 // The reader and one institute's choice as functions for C and Rust, so that each can be compared with the second program by
-// itself. Not part of the unit.
+// itself; `probe_c` has them in one archive. Not part of the unit.
 #![tactic(auto)]
 
 ghost use Rattle.std.specs.Prelude.{◌≡◌};
@@ -16,8 +16,7 @@ use reader::records::institute_allowed;
 use reader::rules::{rule_table, rules_of};
 
 // The number of the first of the questions about a file that is answered no, and its byte; 0 and 0 where each is answered yes.
-#[unsafe(no_mangle)]
-pub extern "C" fn tazbilk_verdict(file: &[u8], res: &mut [u64; 2])
+pub fn tazbilk_verdict(file: &[u8], res: &mut [u64; 2])
     ensures { res.new ≡ verdict_in res.old (verdict file.now) }
 {
     let mut starts = start_table();
@@ -85,8 +84,7 @@ fn places_fit(places: usize, offers: usize, steps: usize, used: usize) -> bool
 
 // The step of each place by an institute's choice, and the type used there, from the marks and the set of offers; where body and lengths do not
 // fit, nothing happens.
-#[unsafe(no_mangle)]
-pub extern "C" fn tazbilk_choose(
+pub fn tazbilk_choose(
     body: &[u8],
     types: usize,
     policy: usize,

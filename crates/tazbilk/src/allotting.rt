@@ -1,4 +1,4 @@
-// The allotment, called from C and Rust.
+// The allotment as numbers, as C and Rust call it.
 ghost use Rattle.std.specs.Prelude.{◌≡◌};
 ghost use Rattle.tazbilk.specs.Allotting.{numbers_of, Exported};
 
@@ -15,8 +15,7 @@ fn allot_numbers(told: Answer) -> [u64; 3]
 }
 
 // The allotment of a round file, with the answer as three numbers.
-#[unsafe(no_mangle)]
-pub extern "C" fn tazbilk_allot(file: &[u8], answer: &mut [u8], work: &mut [u8], res: &mut [u64; 3])
+pub fn tazbilk_allot(file: &[u8], answer: &mut [u8], work: &mut [u8], res: &mut [u64; 3])
     ensures { Exported file.now answer.old work.old
         res.new answer.new work.new }
 {

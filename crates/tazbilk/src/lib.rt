@@ -1,5 +1,5 @@
-// The unit's calls for C and Rust, in one archive.
+// The unit's calls as C and Rust make them, with numbers for answers; `tazbilk_c` has them in one archive.
 #![tactic(auto)]
 
-mod allotting;
-mod reviewing;
+pub mod allotting;
+pub mod reviewing;

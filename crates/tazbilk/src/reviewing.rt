@@ -1,4 +1,4 @@
-// The review of a list of seats, called from C and Rust.
+// The review of a list of seats as numbers, as C and Rust call it.
 ghost use Rattle.std.specs.Prelude.{◌≡◌};
 ghost use Rattle.round.specs.Category.{code_of};
 ghost use Rattle.tazbilk.specs.Reviewing.{numbers_of, Exported};
@@ -30,8 +30,7 @@ fn review_numbers(told: Judgement) -> [u64; 4]
 }
 
 // The review of a list of seats for a round file, with what it says as four numbers.
-#[unsafe(no_mangle)]
-pub extern "C" fn tazbilk_review(file: &[u8], list: &[u8], work: &mut [u8], res: &mut [u64; 4])
+pub fn tazbilk_review(file: &[u8], list: &[u8], work: &mut [u8], res: &mut [u64; 4])
     ensures { Exported file.now list.now work.old res.new work.new }
 {
     *res = review_numbers(review(file, list, work));
