@@ -3,7 +3,7 @@
 use std::path::Path;
 use std::process::exit;
 
-/// The folder in which `rt staticlib` leaves its archives.
+/// The folder in which `evidence/archives.sh` leaves the archives.
 const FOLDER: &str = "../target/staticlib";
 
 fn main() {
@@ -15,7 +15,7 @@ fn main() {
     if !archive.exists() {
         eprintln!(
             "\nmissing: target/staticlib/libprobe.a.\n\
-             Run `rt staticlib probe` in the root of the repository (rt is the command of the Rattle kit)."
+             Run `evidence/archives.sh probe` in the root of the repository (which needs rt, the command of the Rattle kit)."
         );
         exit(1);
     }

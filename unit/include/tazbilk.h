@@ -1,4 +1,4 @@
-/* The seat-allotment unit, called from C. Link target/staticlib/libtazbilk.a (`rt staticlib tazbilk`).
+/* The seat-allotment unit, called from C. Link target/staticlib/libtazbilk.a (`evidence/archives.sh tazbilk`).
    A call never fails, keeps no pointer and needs nothing set up before. A pointer is never null, even where its length is
    0, and what is written overlaps nothing else. */
 #ifndef TAZBILK_H
