@@ -17,9 +17,8 @@ use Rattle.lists.proofs.Counting.{clash, test, same_or, false_unless}
 use Rattle.lists.proofs.Last.{last_few}
 use Rattle.choice.proofs.Offers.{Offers}
 use Rattle.lists.proofs.Tabulate.{get_or_zeros}
-use Rattle.choice.specs.Taking.{takes}
-use Rattle.choice.proofs.Filling.{rule_taken}
-use Rattle.choice.proofs.Taking.{taken_considered, untaken_untyped}
+use Rattle.choice.proofs.Filling.{use_taken}
+use Rattle.choice.proofs.Taking.{takes, types_taken, taken_considered, untaken_untyped}
 
 -- where no step takes a place for use it has no type
 pub type_none : (steps : List StepAccount) (p : ℕ) → used_in steps p ≡ false → type_in steps p ≡ 0
@@ -45,17 +44,17 @@ module _ (marks : List ℕ) (Y : Offers) (p : ℕ) (inside : p < length marks) w
 
     for_use_taken : took_for_use (account_at marks Y k rule done) p ≡ true → taken_at marks Y k rule done p ≡ true
     unfolding account_at taken_at
-    for_use_taken t = rule_taken (length marks) (takes rule marks) _ _ p (sym (tabulate_at (length marks) _ false p inside) ∙ t)
+    for_use_taken t = use_taken rule.reserved marks _ _ p (sym (tabulate_at (length marks) _ false p inside) ∙ t)
 
     -- a place that the step does not take for use has no type of it
     used_none : took_for_use (account_at marks Y k rule done) p ≡ false → type_used (account_at marks Y k rule done) p ≡ 0
-    unfolding account_at
+    unfolding account_at takes types_taken
     used_none t = untaken_untyped rule marks _ p (sym (tabulate_at (length marks) _ false p inside) ∙ t)
 
     -- a place with a step is taken at no other
     not_again : given done ≢ 0 → taken_at marks Y k rule done p ≡ false
     unfolding taken_at considers
-    not_again some = false_unless _ (λ t. some (eqb-true _ 0 (and_snd (Y p rule.category) _ (taken_considered rule marks _ _ p t))))
+    not_again some = false_unless _ (λ t. some (eqb-true _ 0 (and_snd (Y p rule.category) _ (taken_considered rule.reserved marks _ _ p t))))
 
   -- a place with a step keeps it, and no later step takes it for use
   kept : (rules : List StepRule) (k : ℕ) (done : Progress) → given done ≢ 0
@@ -125,7 +124,7 @@ type_of marks Y rules p k l e = type_from marks Y p l rules 1 k (suc k) (nothing
 merits_long : (marks : List ℕ) (Y : Offers) (rules : List StepRule) (k i : ℕ) (done : Progress) → length (account_of (account_from marks Y k rules done) (suc i)).by_merit ≤ length marks
 unfolding account_from account_at
 merits_long marks Y [] k i done = omega arith
-merits_long marks Y (rule ∷ rules) k zero done = omega (arith, length_tabulate 0 (length marks) (taken_by_merit (length marks) (takes rule marks) (considers marks Y rule done) (positions_at marks Y k rule done)))
+merits_long marks Y (rule ∷ rules) k zero done = omega (arith, length_tabulate 0 (length marks) (taken_by_merit rule.reserved marks (considers marks Y rule done) (positions_at marks Y k rule done)))
 merits_long marks Y (rule ∷ rules) k (suc i) done =
     let at : suc (suc i) - 1 ≡ suc (suc i - 1) = omega arith in rw at (merits_long marks Y rules (suc k) i (advance marks Y k rule done))
 

@@ -13,16 +13,17 @@ use Rattle.round.specs.declared.entry.Category.{Category}
 use Rattle.round.specs.Round.{StepRule}
 use Rattle.lists.specs.Lists.{tabulate}
 use Rattle.lists.proofs.Words.{and_fst, and_snd, tabulate_at}
-use Rattle.choice.specs.Step.{taken_by_merit}
-use Rattle.choice.specs.Taking.{takes, types_taken, takes_most, LawfulStep, Lawful}
+use Rattle.matching.specs.ForUse.{taken_for_use}
+use Rattle.matching.specs.FirstPlacing.{types_of}
+use Rattle.choice.specs.Step.{remaining, taken_by_merit, taken}
 use Rattle.choice.specs.Choice.{Progress, considers, positions_at, taken_at, vacant_at, advance, advance_all, nothing_done, choose}
 use Rattle.choice.specs.Account.{StepAccount, account_at, account_from, account}
 use Rattle.lists.proofs.Counting.{clash, false_unless, count_ext}
 use Rattle.lists.proofs.Tabulate.{tabulate_cong}
 use Rattle.lists.proofs.Sets.{left_if_out}
-use Rattle.choice.proofs.Filling.{irrelevant, taken_irrelevant, rule_taken, merit_is}
-use Rattle.choice.proofs.Taking.{taking_rule, taken_considered, types_taken_same}
-use Rattle.choice.proofs.Completion.{progress_below, Completing, positions_in, taken_in, vacant_in, complete, complete_all, all_left, completion, left_before, completion_within}
+use Rattle.choice.proofs.Filling.{filled, irrelevant, filled_irrelevant, use_taken, merit_is}
+use Rattle.choice.proofs.Taking.{takes, types_taken, takes_most, LawfulStep, LawfulFor, taking_rule, taken_considered, types_taken_same}
+use Rattle.choice.proofs.Completion.{Lawful, lawful_for, progress_below, Completing, positions_in, taken_in, vacant_in, complete, complete_all, all_left, completion, left_before, completion_within}
 use Rattle.choice.proofs.Offers.{Offers, WithinBelow, Alone, same, same_self, same_category_lem}
 use Rattle.choice.proofs.Chosen.{taken_under, under_none}
 
@@ -51,9 +52,9 @@ module _ (marks : List ℕ) where
   abbrev account_in : ℕ → StepRule → Completing → StepAccount
   account_in k rule now = record {
     positions = positions_in marks k rule now;
-    for_use = tabulate (length marks) (takes rule marks (λ p. now.left p rule.category));
-    by_merit = tabulate (length marks) (taken_by_merit (length marks) (takes rule marks) (λ p. now.left p rule.category) (positions_in marks k rule now));
-    types = types_taken rule marks (λ p. now.left p rule.category);
+    for_use = tabulate (length marks) (taken_for_use rule.reserved marks (λ p. now.left p rule.category));
+    by_merit = tabulate (length marks) (taken_by_merit rule.reserved marks (λ p. now.left p rule.category) (positions_in marks k rule now));
+    types = types_of rule.reserved marks (taken_for_use rule.reserved marks (λ p. now.left p rule.category));
     vacant = vacant_in marks k rule now;
   }
 
@@ -72,7 +73,7 @@ module _ (marks : List ℕ)
       (ends : (p : ℕ) → p < length marks → (c : Category) → Y' p c ≡ true → (complete marks k rule now).left p c ≡ false → Z p c ≡ true) where
     taken_left : (p : ℕ) → taken_in marks k rule now p ≡ true → now.left p rule.category ≡ true
     unfolding taken_in
-    taken_left p t = taken_considered rule marks (λ r. now.left r rule.category) _ p t
+    taken_left p t = taken_considered rule.reserved marks (λ r. now.left r rule.category) _ p t
 
     taken_kept : (p : ℕ) → p < length marks → taken_in marks k rule now p ≡ true → Z p rule.category ≡ true
     unfolding complete
@@ -108,28 +109,28 @@ module _ (marks : List ℕ)
     taken_still p l t = rw (held p l rule.category (taken_kept p l t), taken_new p l t)
 
     step_same : (p : ℕ) → p < length marks → taken_at marks Y k rule now.done p ≡ taken_in marks k rule now p
-    unfolding taken_at taken_in positions_at positions_in
+    unfolding taken_at taken_in positions_at positions_in taken taken_by_merit remaining filled takes
     step_same =
         let fits : takes_most rule ≤ rule.own + now.done.handed k = omega (arith, lawful.own) in
-        taken_irrelevant (length marks) (takes_most rule) (takes rule marks) (taking_rule rule marks lawful.fit) _ fits (considers marks Y rule now.done) (λ p. now.left p rule.category) considered_left taken_still
+        filled_irrelevant (length marks) (takes_most rule) (takes rule marks) (taking_rule rule marks lawful.fit) _ fits (considers marks Y rule now.done) (λ p. now.left p rule.category) considered_left taken_still
 
     use_same : (p : ℕ) → p < length marks → takes rule marks (considers marks Y rule now.done) p ≡ takes rule marks (λ p. now.left p rule.category) p
-    unfolding taken_in
+    unfolding taken_in takes
     use_same =
         irrelevant (length marks) (takes_most rule) (takes rule marks) (taking_rule rule marks lawful.fit) (considers marks Y rule now.done) (λ p. now.left p rule.category) considered_left
-        (λ p l t. taken_still p l (rule_taken (length marks) (takes rule marks) _ (positions_in marks k rule now) p t))
+        (λ p l t. taken_still p l (use_taken rule.reserved marks _ (positions_in marks k rule now) p t))
 
     merit_same : (p : ℕ) → p < length marks
-        → taken_by_merit (length marks) (takes rule marks) (considers marks Y rule now.done) (positions_at marks Y k rule now.done) p
-        ≡ taken_by_merit (length marks) (takes rule marks) (λ p. now.left p rule.category) (positions_in marks k rule now) p
-    unfolding taken_at taken_in
+        → taken_by_merit rule.reserved marks (considers marks Y rule now.done) (positions_at marks Y k rule now.done) p
+        ≡ taken_by_merit rule.reserved marks (λ p. now.left p rule.category) (positions_in marks k rule now) p
+    unfolding taken_at taken_in takes
     merit_same p l =
-        merit_is (length marks) (takes rule marks) _ _ p
+        merit_is rule.reserved marks _ _ p
         ∙ rw (step_same p l, use_same p l)
-        (sym (merit_is (length marks) (takes rule marks) (λ p. now.left p rule.category) (positions_in marks k rule now) p))
+        (sym (merit_is rule.reserved marks (λ p. now.left p rule.category) (positions_in marks k rule now) p))
 
     step_account : account_at marks Y k rule now.done ≡ account_in marks k rule now
-    unfolding account_at vacant_at vacant_in positions_at positions_in
+    unfolding account_at vacant_at vacant_in positions_at positions_in takes types_taken
     step_account =
         let for_use_is = tabulate_cong (length marks) _ _ use_same in
         let by_merit_is = tabulate_cong (length marks) _ _ merit_same in
@@ -166,7 +167,7 @@ module _ (marks : List ℕ)
         some_then p l false t ne = agrees.some p l ne
 
   -- down the steps, numbered from k
-  all_agree : (rules : List StepRule) → Lawful marks rules → (k : ℕ) (now : Completing) → Agrees (length marks) under Y' now → ((p : ℕ) → p < length marks → (c : Category) → Y' p c ≡ true → (complete_all marks k rules now).left p c ≡ false → Z p c ≡ true) → ((i j : ℕ) → j ≡ k + i → (c : Category) → under j c ≡ taken_under rules (suc i) c) → (advance_all marks Y k rules now.done ≡ (complete_all marks k rules now).done) × Agrees (length marks) under Y' (complete_all marks k rules now) × (account_from marks Y k rules now.done ≡ accounts_in marks k rules now)
+  all_agree : (rules : List StepRule) → LawfulFor marks rules → (k : ℕ) (now : Completing) → Agrees (length marks) under Y' now → ((p : ℕ) → p < length marks → (c : Category) → Y' p c ≡ true → (complete_all marks k rules now).left p c ≡ false → Z p c ≡ true) → ((i j : ℕ) → j ≡ k + i → (c : Category) → under j c ≡ taken_under rules (suc i) c) → (advance_all marks Y k rules now.done ≡ (complete_all marks k rules now).done) × Agrees (length marks) under Y' (complete_all marks k rules now) × (account_from marks Y k rules now.done ≡ accounts_in marks k rules now)
   unfolding advance_all complete_all account_from accounts_in
   all_agree [] lawful k now agrees ends number = (refl, agrees, refl)
   all_agree (rule ∷ rules) lawful k now agrees ends number =
@@ -177,11 +178,11 @@ module _ (marks : List ℕ)
       let done = step_done k rule lawful.0 now agrees soon in
       (rw done later.0, later.1, rw (step_account k rule lawful.0 now agrees soon, done, later.2))
 
-module _ (marks : List ℕ) (rules : List StepRule) (lawful : Lawful marks rules) where
+module _ (marks : List ℕ) (rules : List StepRule) (lawful : Lawful rules) where
   between : (Y Y' : Offers) → WithinBelow (length marks) Y Y' → WithinBelow (length marks) (completion marks rules Y') Y → Alone (length marks) (completion marks rules Y') → (advance_all marks Y 1 rules (nothing_done marks Y') ≡ (complete_all marks 1 rules (all_left marks Y')).done) × Agrees (length marks) (taken_under rules) Y' (complete_all marks 1 rules (all_left marks Y')) × (account_from marks Y 1 rules (nothing_done marks Y') ≡ accounts_in marks 1 rules (all_left marks Y'))
   unfolding completion all_left nothing_done
   between Y Y' fewer held alone =
-      all_agree marks (taken_under rules) (under_none rules) Y Y' (completion marks rules Y') fewer held alone rules lawful 1 (all_left marks Y')
+      all_agree marks (taken_under rules) (under_none rules) Y Y' (completion marks rules Y') fewer held alone rules (lawful_for marks rules lawful) 1 (all_left marks Y')
       record {
         within = λ p l c e. e;
         noted = λ p l c. ap (λ (g : ℕ). taken_under rules g c) (get_or-replicate (length marks) p 0 0 l) ∙ under_none rules c ∙ sym (and-not_self (Y' p c));

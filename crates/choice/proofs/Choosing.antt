@@ -17,7 +17,6 @@ use Rattle.lists.specs.Lists.{tabulate, tabulate_from}
 use Rattle.round.specs.Rules.{number_in, rule_in, rules_in, RuleTable}
 use Rattle.lists.proofs.Words.{length_tabulate, tabulate_at, cleared}
 use Rattle.matching.specs.ForUse.{taken_for_use}
-use Rattle.choice.specs.Taking.{takes, types_taken}
 use Rattle.choice.specs.declared.step.Numbers.{Numbers}
 use Rattle.choice.specs.Choice.{Progress, considers, positions_at, taken_at, vacant_at, advance, advance_all, nothing_done, choose}
 use Rattle.choice.specs.Account.{StepAccount, took_for_use, type_used, account_of, account_at, account_from, account, used_in, type_in, types_in}
@@ -139,7 +138,7 @@ module _ {types k : ℕ} {rules handed : List ℕ} (t : RuleTable types (suc k) 
       → (done_by given' (handing_on numbers.vacant) ≡ advance marks (offered_by offers) (suc k) (rule_in types rules k) (done_by given handed)) × Handing (suc k) (handing_on numbers.vacant)
       × (first ≡ true → used' ≡ types_with (length marks) (account_at marks (offered_by offers) (suc k) (rule_in types rules k) (done_by given handed)) used)
       × (first ≡ true → noted' ≡ sets noted (k * 5) (numbers_of (account_at marks (offered_by offers) (suc k) (rule_in types rules k) (done_by given handed))))
-  unfolding advance vacant_at taken_at takes types_taken positions_at considers rule_in account_at
+  unfolding advance vacant_at taken_at positions_at considers rule_in account_at
   step_advances first marks offers given used noted {given'} {used'} {noted'} {numbers} s n = (
     done_same (advance marks (offered_by offers) (suc k) (rule_in types rules k) (done_by given handed)) given' (handing_on numbers.vacant)
         (rw (reserved, coded, add-one) at s.0)

@@ -60,7 +60,7 @@ module _ (marks : List ℕ) (Y : Offers) where
       go : (b : Bool) → taken_at marks Y k rule done p ≡ b → under (cond b k (get_or done.given p 0)) c ≡ true → Y p c ≡ true
       go true e u =
           let one : c ≡ rule.category = same_category_lem c rule.category (sym (number c) ∙ u) in
-          let offers : Y p rule.category ≡ true = and_fst (Y p rule.category) (eqb (get_or done.given p 0) 0) (taken_considered rule marks _ _ p e) in
+          let offers : Y p rule.category ≡ true = and_fst (Y p rule.category) (eqb (get_or done.given p 0) 0) (taken_considered rule.reserved marks _ _ p e) in
           cc
       go false e u = low p l c u
 

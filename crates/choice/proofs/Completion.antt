@@ -11,17 +11,25 @@ use borrow.Author.Tests.{ltb-true, eqb-true, ne_eqb}
 use Rattle.round.specs.declared.entry.Category.{Category}
 use Rattle.round.specs.declared.entry.Category.TheVariants.{Open, SC, ST, OBC, EWS}
 use Rattle.round.specs.Round.{StepRule}
-use Rattle.lists.specs.Lists.{tabulate, count_of}
+use Rattle.lists.specs.Lists.{tabulate, count_of, list_sum}
 use Rattle.lists.proofs.Words.{and_fst, and_snd}
-use Rattle.choice.specs.Step.{taken}
-use Rattle.choice.specs.Taking.{takes, takes_most, LawfulStep, Lawful}
+use Rattle.choice.specs.Step.{remaining, taken_by_merit, taken}
 use Rattle.choice.specs.Choice.{Progress, nothing_done}
 use Rattle.lists.proofs.Counting.{clash, true_unless, count_ext, count_le}
 use Rattle.lists.proofs.Tabulate.{tabulate_cong}
 use Rattle.lists.proofs.Sets.{left_if_out, out_if_left, count_split}
 use Rattle.choice.proofs.Offers.{Offers, Within, WithinBelow, same, same_category_lem, offers_in, offers_split, same_by_offers, cut_offers, cut_in}
-use Rattle.choice.proofs.Filling.{taken_stays, taken_count}
-use Rattle.choice.proofs.Taking.{taking_rule, taken_considered}
+use Rattle.choice.proofs.Filling.{filled, filled_stays, filled_count}
+use Rattle.choice.proofs.Taking.{takes, takes_most, LawfulStep, LawfulFor, one_to_one, taking_rule, taken_considered}
+
+-- each step's reserved positions are positions of its own
+abbrev pub Lawful : List StepRule → Type 0
+Lawful [] = Unit {0}
+Lawful (rule ∷ rules) = (list_sum rule.reserved ≤ rule.own) × Lawful rules
+
+pub lawful_for : (marks : List ℕ) (rules : List StepRule) → Lawful rules → LawfulFor marks rules
+lawful_for marks [] lawful = tt
+lawful_for marks (rule ∷ rules) lawful = (one_to_one marks rule lawful.0, lawful_for marks rules lawful.1)
 
 -- what is done when step k too has taken the places of T, of its positions
 abbrev pub progress : ℕ → ℕ → ℕ → ℕ → (ℕ → Bool) → Progress → Progress
@@ -48,7 +56,7 @@ module _ (marks : List ℕ) where
 
   -- the places whose offer of its category step k takes
   unfoldable pub taken_in : ℕ → StepRule → Completing → ℕ → Bool
-  taken_in k rule now = taken (length marks) (takes rule marks) (λ p. now.left p rule.category) (positions_in k rule now)
+  taken_in k rule now = taken rule.reserved marks (λ p. now.left p rule.category) (positions_in k rule now)
 
   unfoldable pub vacant_in : ℕ → StepRule → Completing → ℕ
   vacant_in k rule now = positions_in k rule now - count_of (length marks) (taken_in k rule now)
@@ -146,7 +154,7 @@ module _ (marks : List ℕ) where
       λ d. count_leaving (length marks) (λ p. now.left p d) T (same d c)
       (λ s p l t.
       let e : d ≡ c = same_category_lem d c s in
-      rw e (taken_considered rule marks (λ r. now.left r c) _ p t)) in
+      rw e (taken_considered rule.reserved marks (λ r. now.left r c) _ p t)) in
       omega (arith, part Open, part SC, part ST, part OBC, part EWS, one_category c (count_of (length marks) T))
 
   -- one step, from fewer offers and more positions and from more offers and fewer positions
@@ -154,7 +162,7 @@ module _ (marks : List ℕ) where
       (fewer : Within now.left now'.left)
       (more : (j : ℕ) → now'.done.handed j ≤ now.done.handed j) where
     step_stays : (p : ℕ) (c : Category) → (complete marks k rule now).left p c ≡ true → (complete marks k rule now').left p c ≡ true
-    unfolding complete taken_in positions_in
+    unfolding complete taken_in positions_in taken taken_by_merit remaining filled takes
     step_stays p c =
         stays_left (now.left p c) (same c rule.category) (taken_in marks k rule now p) (now'.left p c) (taken_in marks k rule now' p)
         (fewer p c)
@@ -162,16 +170,16 @@ module _ (marks : List ℕ) where
         let e : c ≡ rule.category = same_category_lem c rule.category s in
         let x : now.left p rule.category ≡ true = cc in
         let less : rule.own + now'.done.handed k ≤ rule.own + now.done.handed k = omega (arith, more k) in
-        taken_stays (length marks) (takes_most rule) (takes rule marks) (taking_rule rule marks lawful.fit) _ _ less
+        filled_stays (length marks) (takes_most rule) (takes rule marks) (taking_rule rule marks lawful.fit) _ _ less
         (λ r. now.left r rule.category)
         (λ r. now'.left r rule.category)
         (λ r. fewer r rule.category) p x)
 
     step_count_lem : (at : Completing) → count_of (length marks) (taken_in marks k rule at) ≡ min (positions_in marks k rule at) (count_of (length marks) (λ p. at.left p rule.category))
-    unfolding taken_in positions_in
+    unfolding taken_in positions_in taken taken_by_merit remaining filled takes
     step_count_lem at =
         let fits : takes_most rule ≤ rule.own + at.done.handed k = omega (arith, lawful.own) in
-        taken_count (length marks) (takes_most rule) (takes rule marks) (taking_rule rule marks lawful.fit) _ fits (λ p. at.left p rule.category)
+        filled_count (length marks) (takes_most rule) (takes rule marks) (taking_rule rule marks lawful.fit) _ fits (λ p. at.left p rule.category)
 
     step_positions : (at : Completing) → vacant_in marks k rule at + count_of (length marks) (taken_in marks k rule at) ≡ rule.own + at.done.handed k
     unfolding vacant_in positions_in
@@ -211,7 +219,7 @@ module _ (marks : List ℕ) where
           cond_between (among (suc k) (length rules) r) v v' step_vacant_lem,
         )
 
-  all_stay : (rules : List StepRule) → Lawful marks rules → (k : ℕ) (now now' : Completing) → Within now.left now'.left → ((j : ℕ) → now'.done.handed j ≤ now.done.handed j) → (p : ℕ) (c : Category) → (complete_all marks k rules now).left p c ≡ true → (complete_all marks k rules now').left p c ≡ true
+  all_stay : (rules : List StepRule) → LawfulFor marks rules → (k : ℕ) (now now' : Completing) → Within now.left now'.left → ((j : ℕ) → now'.done.handed j ≤ now.done.handed j) → (p : ℕ) (c : Category) → (complete_all marks k rules now).left p c ≡ true → (complete_all marks k rules now').left p c ≡ true
   unfolding complete_all
   all_stay [] lawful k now now' fewer more = fewer
   all_stay (rule ∷ rules) lawful k now now' fewer more =
@@ -220,15 +228,15 @@ module _ (marks : List ℕ) where
       (step_handed k rule lawful.0 now now' fewer more)
 
   -- what is not taken from some offers is not taken from more
-  pub completion_stays : (rules : List StepRule) → Lawful marks rules → (Y Y' : Offers) → Within Y Y' → (p : ℕ) (c : Category) → Y p c ≡ true → completion marks rules Y p c ≡ false → completion marks rules Y' p c ≡ false
+  pub completion_stays : (rules : List StepRule) → Lawful rules → (Y Y' : Offers) → Within Y Y' → (p : ℕ) (c : Category) → Y p c ≡ true → completion marks rules Y p c ≡ false → completion marks rules Y' p c ≡ false
   unfolding completion all_left nothing_done
   completion_stays rules lawful Y Y' fewer p c y out =
       out_if_left (Y' p c) _
-      (all_stay rules lawful 1 (all_left marks Y) (all_left marks Y') fewer (λ j. omega arith) p c
+      (all_stay rules (lawful_for marks rules lawful) 1 (all_left marks Y) (all_left marks Y') fewer (λ j. omega arith) p c
       (left_if_out (Y p c) _ y out))
 
   -- with fewer offers and more positions handed, the steps to come take more only by what they were handed more
-  all_take : (rules : List StepRule) → Lawful marks rules → (k : ℕ) (now now' : Completing) → Within now.left now'.left → ((j : ℕ) → now'.done.handed j ≤ now.done.handed j) → offers_in (length marks) now.left + offers_in (length marks) (complete_all marks k rules now').left + sum_from k (length rules) now'.done.handed ≤ offers_in (length marks) now'.left + offers_in (length marks) (complete_all marks k rules now).left + sum_from k (length rules) now.done.handed
+  all_take : (rules : List StepRule) → LawfulFor marks rules → (k : ℕ) (now now' : Completing) → Within now.left now'.left → ((j : ℕ) → now'.done.handed j ≤ now.done.handed j) → offers_in (length marks) now.left + offers_in (length marks) (complete_all marks k rules now').left + sum_from k (length rules) now'.done.handed ≤ offers_in (length marks) now'.left + offers_in (length marks) (complete_all marks k rules now).left + sum_from k (length rules) now.done.handed
   unfolding complete_all
   all_take [] lawful k now now' fewer more = omega arith
   all_take (rule ∷ rules) lawful k now now' fewer more =
@@ -238,17 +246,17 @@ module _ (marks : List ℕ) where
       (step_handed k rule lawful.0 now now' fewer more))
 
   -- more offers take no fewer
-  pub completion_grows : (rules : List StepRule) → Lawful marks rules → (Y Y' : Offers) → Within Y Y' → total_taken marks rules Y ≤ total_taken marks rules Y'
+  pub completion_grows : (rules : List StepRule) → Lawful rules → (Y Y' : Offers) → Within Y Y' → total_taken marks rules Y ≤ total_taken marks rules Y'
   unfolding total_taken completion all_left nothing_done
   completion_grows rules lawful Y Y' fewer =
       omega (
         arith,
-        all_take rules lawful 1 (all_left marks Y) (all_left marks Y') fewer (λ j. omega arith),
+        all_take rules (lawful_for marks rules lawful) 1 (all_left marks Y) (all_left marks Y') fewer (λ j. omega arith),
         offers_split (length marks) Y (complete_all marks 1 rules (all_left marks Y)).left (left_before marks rules 1 (all_left marks Y)),
         offers_split (length marks) Y' (complete_all marks 1 rules (all_left marks Y')).left (left_before marks rules 1 (all_left marks Y')),
       )
 
-  module _ (rules : List StepRule) (lawful : Lawful marks rules) where
+  module _ (rules : List StepRule) (lawful : Lawful rules) where
     same_within : (Y Y' : Offers) → Within Y Y' → WithinBelow (length marks) (completion marks rules Y') Y → (p : ℕ) → p < length marks → (c : Category) → completion marks rules Y p c ≡ completion marks rules Y' p c
     unfolding total_taken
     same_within Y Y' s held p l c =

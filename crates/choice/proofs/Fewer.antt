@@ -13,7 +13,7 @@ use Rattle.lists.proofs.Words.{tabulate_at}
 use Rattle.matching.specs.ForUse.{taken_before, taken_for_use}
 use Rattle.choice.specs.Step.{remaining, taken_by_merit, taken}
 use Rattle.matching.specs.FirstPlacing.{types_of}
-use Rattle.choice.specs.Taking.{takes, types_taken}
+use Rattle.choice.proofs.Taking.{takes, types_taken}
 use Rattle.choice.specs.Choice.{Progress, considers, positions_at, taken_at, vacant_at, advance, advance_all, nothing_done, choose}
 use Rattle.choice.specs.Account.{StepAccount, took_for_use, type_used, account_of, account_at, account_from, account, closing_place, type_in}
 use Rattle.lists.specs.Lists.{last_of}
@@ -131,29 +131,29 @@ module _ (G : ℕ → Bool) (n : ℕ) where
     unfolding takes types_taken
     same_types_taken = same_types marks marks' whole few gathers rule.reserved X X' s
 
-    same_remaining : SameAmong G n (remaining (length marks) (takes rule marks) X) (remaining (length marks') (takes rule marks') X')
-    unfolding remaining
+    same_remaining : SameAmong G n (remaining rule.reserved marks X) (remaining rule.reserved marks' X')
+    unfolding remaining takes
     same_remaining = record {
       inside = λ p l g. rw (s.inside p l g, same_takes.inside p l g);
       outside = λ p l g. rw (s.outside p l g);
     }
 
-    same_merit : (q : ℕ) → SameAmong G n (taken_by_merit (length marks) (takes rule marks) X q) (taken_by_merit (length marks') (takes rule marks') X' q)
-    unfolding taken_by_merit remaining
+    same_merit : (q : ℕ) → SameAmong G n (taken_by_merit rule.reserved marks X q) (taken_by_merit rule.reserved marks' X' q)
+    unfolding taken_by_merit remaining takes
     same_merit q = record {
       inside = λ p l g.
           rw (same_remaining.inside p l g, few, whole, same_count _ _ same_takes n (omega arith), same_count _ _ same_remaining p (omega arith));
       outside = λ p l g. rw (same_remaining.outside p l g);
     }
 
-    same_taken : (q : ℕ) → SameAmong G n (taken (length marks) (takes rule marks) X q) (taken (length marks') (takes rule marks') X' q)
-    unfolding taken
+    same_taken : (q : ℕ) → SameAmong G n (taken rule.reserved marks X q) (taken rule.reserved marks' X' q)
+    unfolding taken takes
     same_taken q = record {
       inside = λ p l g. rw (same_takes.inside p l g, (same_merit q).inside p l g);
       outside = λ p l g. rw (same_takes.outside p l g, (same_merit q).outside p l g);
     }
 
-    same_number : (q : ℕ) → count_of (length marks') (taken (length marks') (takes rule marks') X' q) ≡ count_of (length marks) (taken (length marks) (takes rule marks) X q)
+    same_number : (q : ℕ) → count_of (length marks') (taken rule.reserved marks' X' q) ≡ count_of (length marks) (taken rule.reserved marks X q)
     same_number q = same_size marks marks' whole few _ _ (same_taken q)
 
 -- the steps of the gathered are those of their places, and no other place has one
@@ -216,7 +216,7 @@ module _ (G : ℕ → Bool) (n : ℕ) (marks marks' : List ℕ) (whole : length 
   choose_gathered rules p l g = sym ((same_choice rules).inside p l g)
 
   same_used_at : (k : ℕ) (rule : StepRule) (done done' : Progress) → AlikeAmong G n done done' → SameAmong G n (took_for_use (account_at marks Y k rule done)) (took_for_use (account_at marks' Y' k rule done'))
-  unfolding account_at
+  unfolding account_at takes
   same_used_at k rule done done' a =
       let s = same_takes G n marks marks' whole few gathers rule _ _ (same_considered rule done done' a) in
       record {
@@ -229,7 +229,7 @@ module _ (G : ℕ → Bool) (n : ℕ) (marks marks' : List ℕ) (whole : length 
 
   same_typed_at : (k : ℕ) (rule : StepRule) (done done' : Progress) → AlikeAmong G n done done' → (p : ℕ) → p < n → G p ≡ true
       → type_used (account_at marks' Y' k rule done') (count_of p G) ≡ type_used (account_at marks Y k rule done) p
-  unfolding account_at
+  unfolding account_at takes types_taken
   same_typed_at k rule done done' a = same_types_taken G n marks marks' whole few gathers rule _ _ (same_considered rule done done' a)
 
   same_typed : (rules : List StepRule) (k : ℕ) (done done' : Progress) → AlikeAmong G n done done' → (p : ℕ) → p < n → G p ≡ true
@@ -250,14 +250,14 @@ module _ (G : ℕ → Bool) (n : ℕ) (marks marks' : List ℕ) (whole : length 
 
   module _ (places : List ℕ) (at : Gathers G n (λ p. p) places) where
     same_numbers_at : (k : ℕ) (rule : StepRule) (done done' : Progress) → AlikeAmong G n done done' → SameNumbers places (account_at marks Y k rule done) (account_at marks' Y' k rule done')
-    unfolding account_at closing_place
+    unfolding account_at closing_place takes
     same_numbers_at k rule done done' a =
         let X : ℕ → Bool = considers marks Y rule done in
         let X' : ℕ → Bool = considers marks' Y' rule done' in
         let H : ℕ → Bool = takes rule marks X in
         let H' : ℕ → Bool = takes rule marks' X' in
-        let M : ℕ → Bool = taken_by_merit (length marks) (takes rule marks) X (positions_at marks Y k rule done) in
-        let M' : ℕ → Bool = taken_by_merit (length marks') (takes rule marks') X' (positions_at marks' Y' k rule done') in
+        let M : ℕ → Bool = taken_by_merit rule.reserved marks X (positions_at marks Y k rule done) in
+        let M' : ℕ → Bool = taken_by_merit rule.reserved marks' X' (positions_at marks' Y' k rule done') in
         let used : SameAmong G n H H' = same_takes G n marks marks' whole few gathers rule X X' (same_considered rule done done' a) in
         let seated : SameAmong G n M M' =
         rw (same_positions k rule done done' a) (same_merit G n marks marks' whole few gathers rule X X' (same_considered rule done done' a) _) in

@@ -16,11 +16,11 @@ use Rattle.choice.specs.Choice.{Progress, considers, positions_at, taken_at, vac
 use Rattle.lists.proofs.Counting.{less_or, and_true, clash, true_unless, false_unless}
 use Rattle.lists.proofs.FirstNumber.{first_passes, first_before}
 use Rattle.lists.proofs.Sets.{left_if_out}
-use Rattle.choice.specs.Taking.{takes, takes_most, LawfulStep, Lawful}
-use Rattle.choice.proofs.Taking.{taking_rule, taken_considered}
-use Rattle.choice.proofs.Filling.{taken_stays, taken_irrelevant}
+use Rattle.choice.specs.Step.{remaining, taken_by_merit, taken}
+use Rattle.choice.proofs.Taking.{takes, takes_most, LawfulStep, LawfulFor, taking_rule, taken_considered}
+use Rattle.choice.proofs.Filling.{filled, filled_stays, filled_irrelevant}
 use Rattle.choice.proofs.Offers.{Offers, Within, same_self}
-use Rattle.choice.proofs.Completion.{progress_below}
+use Rattle.choice.proofs.Completion.{Lawful, lawful_for, progress_below}
 use Rattle.choice.proofs.Chosen.{taken_under}
 
 -- an offer of W outside X that is taken from whatever offers of W are added to those of X, itself among them
@@ -51,7 +51,7 @@ module _ (marks : List ℕ) (Y : Offers) where
 
   is_considered : (k : ℕ) (rule : StepRule) (done : Progress) (p : ℕ) → taken_at marks Y k rule done p ≡ true → considers marks Y rule done p ≡ true
   unfolding taken_at
-  is_considered k rule done p = taken_considered rule marks (considers marks Y rule done) _ p
+  is_considered k rule done p = taken_considered rule.reserved marks (considers marks Y rule done) _ p
 
   -- a step takes who has none
   taken_new : (k : ℕ) (rule : StepRule) (done : Progress) (p : ℕ) → taken_at marks Y k rule done p ≡ true → get_or done.given p 0 ≡ 0
@@ -84,23 +84,23 @@ module _ (marks : List ℕ) (X W : Offers) (fewer : Within X W) where
     -- offers of W from which the step considers all whom it takes from W
     step_same : (Y : Offers) → Within Y W → ((p : ℕ) → p < length marks → taken_at marks W k rule done p ≡ true → considers marks Y rule done p ≡ true)
         → advance marks Y k rule done ≡ advance marks W k rule done
-    unfolding advance vacant_at positions_at taken_at
+    unfolding advance vacant_at positions_at taken_at taken taken_by_merit remaining filled takes
     step_same Y less held =
         let fits : takes_most rule ≤ rule.own + done.handed k = omega (arith, lawful.own) in
         progress_below (length marks) k (rule.own + done.handed k) rule.receiver done _ _
-        (taken_irrelevant (length marks) (takes_most rule) (takes rule marks) (taking_rule rule marks lawful.fit) _ fits (considers marks Y rule done) (considers marks W rule done)
+        (filled_irrelevant (length marks) (takes_most rule) (takes rule marks) (taking_rule rule marks lawful.fit) _ fits (considers marks Y rule done) (considers marks W rule done)
         (λ p l. considers_more Y W less p)
         held)
 
     -- whom the step takes from W it takes from any offers of W from which it considers them
     step_takes : (Y : Offers) → Within Y W → (p : ℕ) → taken_at marks W k rule done p ≡ true → considers marks Y rule done p ≡ true
         → taken_at marks Y k rule done p ≡ true
-    unfolding taken_at positions_at
+    unfolding taken_at positions_at taken taken_by_merit remaining filled takes
     step_takes Y less p t x =
         true_unless _
         (λ out.
         clash t
-        (taken_stays (length marks) (takes_most rule) (takes rule marks) (taking_rule rule marks lawful.fit) _ _ (omega arith) (considers marks Y rule done) (considers marks W rule done)
+        (filled_stays (length marks) (takes_most rule) (takes rule marks) (taking_rule rule marks lawful.fit) _ _ (omega arith) (considers marks Y rule done) (considers marks W rule done)
         (considers_more Y W less) p x out))
 
     -- whom the step takes from W and does not consider from X
@@ -164,7 +164,7 @@ module _ (marks : List ℕ) (X W : Offers) (fewer : Within X W) where
       same_or_later under rules (inr later) = inr (newly_later under rules later)
 
   -- down the steps, numbered from k
-  all_differ : (under : ℕ → Category → Bool) (rules : List StepRule) → Lawful marks rules → (k : ℕ) → k ≢ 0 → (done : Progress)
+  all_differ : (under : ℕ → Category → Bool) (rules : List StepRule) → LawfulFor marks rules → (k : ℕ) → k ≢ 0 → (done : Progress)
       → ((i j : ℕ) → j ≡ k + i → (c : Category) → under j c ≡ taken_under rules (suc i) c)
       → (advance_all marks X k rules done ≡ advance_all marks W k rules done)
       ⊎ NewlyGiven (length marks) under (λ Y. advance_all marks Y k rules done) X W
@@ -191,11 +191,11 @@ module _ (marks : List ℕ) (X W : Offers) (fewer : Within X W) where
       (all_differ under rules lawful.1 (suc k) (λ z. omega arith) (advance marks W k rule done) (λ i j e c. number (suc i) j (omega arith) c)))
 
   -- the choices are the same, or some offer of W outside X is newly taken
-  pub first_difference : (rules : List StepRule) → Lawful marks rules → (choose marks X rules ≡ choose marks W rules) ⊎ NewlyTaken marks rules X W
+  pub first_difference : (rules : List StepRule) → Lawful rules → (choose marks X rules ≡ choose marks W rules) ⊎ NewlyTaken marks rules X W
   unfolding choose nothing_done
   first_difference rules lawful =
       go
-      (all_differ (taken_under rules) rules lawful 1 (λ z. omega arith) (nothing_done marks X)
+      (all_differ (taken_under rules) rules (lawful_for marks rules lawful) 1 (λ z. omega arith) (nothing_done marks X)
       (λ i j e c. let f : j ≡ suc i = omega arith in ap (λ (g : ℕ). taken_under rules g c) f))
     where
       go : (advance_all marks X 1 rules (nothing_done marks X) ≡ advance_all marks W 1 rules (nothing_done marks X))

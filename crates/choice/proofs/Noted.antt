@@ -15,7 +15,7 @@ use Rattle.round.specs.Round.{StepRule}
 use Rattle.lists.proofs.Words.{length_tabulate, tabulate_at}
 use Rattle.lists.proofs.Joined.{sets_front}
 use Rattle.choice.specs.declared.step.Numbers.{Numbers}
-use Rattle.choice.specs.Taking.{takes}
+use Rattle.matching.specs.ForUse.{taken_for_use}
 use Rattle.choice.specs.Step.{taken_by_merit}
 use Rattle.choice.specs.Choice.{Progress, considers, positions_at, taken_at, vacant_at}
 use Rattle.choice.specs.Account.{StepAccount, account_of, account_at, account, closing_place}
@@ -39,11 +39,11 @@ module _ (n : ℕ) (X : ℕ → Bool) where
 -- the numbers of a step's account are those of the step
 pub numbers_at : (marks : List ℕ) (Y : Offers) (k : ℕ) (rule : StepRule) (done : Progress)
     → numbers_of (account_at marks Y k rule done) ≡ step_numbers rule.reserved marks (considers marks Y rule done) (positions_at marks Y k rule done)
-unfolding numbers_of account_at vacant_at taken_at takes closing_place
+unfolding numbers_of account_at vacant_at taken_at closing_place
 numbers_at marks Y k rule done =
     let n = length marks in
-    let H : ℕ → Bool = takes rule marks (considers marks Y rule done) in
-    let M : ℕ → Bool = taken_by_merit (length marks) (takes rule marks) (considers marks Y rule done) (positions_at marks Y k rule done) in
+    let H : ℕ → Bool = taken_for_use rule.reserved marks (considers marks Y rule done) in
+    let M : ℕ → Bool = taken_by_merit rule.reserved marks (considers marks Y rule done) (positions_at marks Y k rule done) in
     rw (count_listed n H, count_listed n M, last_listed n M)
 
 -- a step's numbers, stored one after the other

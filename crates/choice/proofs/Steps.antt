@@ -81,23 +81,23 @@ module _ (first : Bool) (reserved marks placed : List ℕ) (X : ℕ → Bool) (p
   abbrev n : ℕ
   n = length marks
 
-  rest_same : (q : ℕ) → q < n → rest_at placed X q ≡ remaining (length marks) (taken_for_use reserved marks) X q
+  rest_same : (q : ℕ) → q < n → rest_at placed X q ≡ remaining reserved marks X q
   rest_same q l = unfold remaining in ap (λ (b : Bool). X q && not b) (sym (k.each q l))
 
-  fills_same : (p : ℕ) → p < n → fills_at placed X (positions - used) p ≡ taken_by_merit (length marks) (taken_for_use reserved marks) X positions p
+  fills_same : (p : ℕ) → p < n → fills_at placed X (positions - used) p ≡ taken_by_merit reserved marks X positions p
   fills_same p l =
       unfold taken_by_merit in
       rw (
         rest_same p l,
-        count_ext p (rest_at placed X) (remaining (length marks) (taken_for_use reserved marks) X) (λ q b. rest_same q (omega arith)),
+        count_ext p (rest_at placed X) (remaining reserved marks X) (λ q b. rest_same q (omega arith)),
         k.number,
-        left_test (count_of n H) (count_of p (remaining (length marks) (taken_for_use reserved marks) X)) positions,
+        left_test (count_of n H) (count_of p (remaining reserved marks X)) positions,
       )
 
-  seats_same : (p : ℕ) → p < n → seats_at placed X (positions - used) p ≡ taken (length marks) (taken_for_use reserved marks) X positions p
+  seats_same : (p : ℕ) → p < n → seats_at placed X (positions - used) p ≡ taken reserved marks X positions p
   seats_same p l = unfold taken in rw (fills_same p l, sym (k.each p l))
 
-  split : (p : ℕ) → bit (taken (length marks) (taken_for_use reserved marks) X positions p) ≡ bit (H p) + bit (taken_by_merit (length marks) (taken_for_use reserved marks) X positions p)
+  split : (p : ℕ) → bit (taken reserved marks X positions p) ≡ bit (H p) + bit (taken_by_merit reserved marks X positions p)
   split p = unfold taken taken_by_merit remaining in apart (H p) (X p) _
     where
       apart : (a x l : Bool) → bit (a || ((x && not a) && l)) ≡ bit a + bit ((x && not a) && l)
@@ -105,19 +105,19 @@ module _ (first : Bool) (reserved marks placed : List ℕ) (X : ℕ → Bool) (p
       apart true false l = refl
       apart false x l = omega arith
 
-  filled_same : (free filled : ℕ) → free ≡ positions - used → filled ≡ min free (count_of n (rest_at placed X)) → filled ≡ count_of n (taken_by_merit (length marks) (taken_for_use reserved marks) X positions)
+  filled_same : (free filled : ℕ) → free ≡ positions - used → filled ≡ min free (count_of n (rest_at placed X)) → filled ≡ count_of n (taken_by_merit reserved marks X positions)
   unfolding taken_by_merit
   filled_same free filled f e =
-      omega (arith, k.number, count_ext n (rest_at placed X) (remaining (length marks) (taken_for_use reserved marks) X) rest_same, count_best n (remaining (length marks) (taken_for_use reserved marks) X) (count_of n H) positions)
+      omega (arith, k.number, count_ext n (rest_at placed X) (remaining reserved marks X) rest_same, count_best n (remaining reserved marks X) (count_of n H) positions)
 
   -- the numbers of the step
   numbers_same : (free filled vacant closing : ℕ) → free ≡ positions - used → filled ≡ min free (count_of n (rest_at placed X)) → vacant ≡ free - filled
       → closing ≡ last_of n (fills_at placed X free) → positions ∷ used ∷ filled ∷ vacant ∷ closing ∷ [] ≡ step_numbers reserved marks X positions
   numbers_same free filled vacant closing f e v c =
-      let merit : filled ≡ count_of n (taken_by_merit (length marks) (taken_for_use reserved marks) X positions) = filled_same free filled f e in
+      let merit : filled ≡ count_of n (taken_by_merit reserved marks X positions) = filled_same free filled f e in
       let left : vacant ≡ step_vacant reserved marks X positions =
-      omega (arith, k.number, count_sum n (taken (length marks) (taken_for_use reserved marks) X positions) H (taken_by_merit (length marks) (taken_for_use reserved marks) X positions) split) in
-      let last : closing ≡ last_of n (taken_by_merit (length marks) (taken_for_use reserved marks) X positions) = (rw f at c) ∙ last_ext n _ _ fills_same in
+      omega (arith, k.number, count_sum n (taken reserved marks X positions) H (taken_by_merit reserved marks X positions) split) in
+      let last : closing ≡ last_of n (taken_by_merit reserved marks X positions) = (rw f at c) ∙ last_ext n _ _ fills_same in
       rw (k.number, merit, left, last)
 
 -- what filling says of the types and the positions left is what the step says

@@ -15,7 +15,6 @@ use Rattle.lists.proofs.Words.{tabulate_at}
 use Rattle.lists.specs.Numbers.{holds}
 use Rattle.matching.specs.Use.{one_less, use_of, Placing, placed_in}
 use Rattle.matching.specs.ForUse.{taken_before, taken_for_use}
-use Rattle.choice.specs.Taking.{takes, types_taken}
 use Rattle.choice.specs.Choice.{Progress, considers, advance, nothing_done}
 use Rattle.lists.specs.Gathers.{gathered}
 use Rattle.matching.specs.FirstPlacing.{first_placing, Smallest, types_of}
@@ -107,7 +106,7 @@ module _ (reserved marks : List ℕ) (X : ℕ → Bool) where
 
 module _ (marks : List ℕ) (Y : Offers) where
   step_first : (k : ℕ) (rule : StepRule) (done : Progress) → TypesFirst rule.reserved marks (account_at marks Y k rule done)
-  unfolding account_at takes types_taken
+  unfolding account_at
   step_first k rule done = record {
     first = rw (lists (λ p. get_or marks p 0), lists (type_used step) ∙ types_down rule.reserved marks X) (taken_first rule.reserved marks X);
     others = λ p e.

@@ -4,10 +4,10 @@ use Rattle.std.specs.Prelude.{ℕ, suc, ◌-◌, ◌≡◌, Bool, false, cond, �
 use Rattle.round.specs.declared.entry.Category.{Category}
 use Rattle.round.specs.Round.{StepRule}
 use Rattle.lists.specs.Lists.{tabulate, greatest_of}
-use Rattle.choice.specs.Taking.{takes, types_taken}
+use Rattle.matching.specs.ForUse.{taken_for_use}
 use Rattle.choice.specs.Step.{taken_by_merit}
 use Rattle.lists.specs.Gathers.{gathered}
-use Rattle.matching.specs.FirstPlacing.{Smallest}
+use Rattle.matching.specs.FirstPlacing.{Smallest, types_of}
 use Rattle.choice.specs.Choice.{Progress, considers, positions_at, vacant_at, advance, nothing_done}
 
 -- what one step did
@@ -40,10 +40,10 @@ module _ (marks : List ℕ) (offered : ℕ → Category → Bool) where
   unfoldable pub account_at : ℕ → StepRule → Progress → StepAccount
   account_at k rule done = record {
     positions = positions_at marks offered k rule done;
-    for_use = tabulate (length marks) (takes rule marks (considers marks offered rule done));
+    for_use = tabulate (length marks) (taken_for_use rule.reserved marks (considers marks offered rule done));
     by_merit = tabulate (length marks)
-        (taken_by_merit (length marks) (takes rule marks) (considers marks offered rule done) (positions_at marks offered k rule done));
-    types = types_taken rule marks (considers marks offered rule done);
+        (taken_by_merit rule.reserved marks (considers marks offered rule done) (positions_at marks offered k rule done));
+    types = types_of rule.reserved marks (taken_for_use rule.reserved marks (considers marks offered rule done));
     vacant = vacant_at marks offered k rule done;
   }
 

@@ -4,7 +4,6 @@ use Rattle.round.specs.declared.entry.Category.{Category}
 use Rattle.round.specs.Round.{StepRule}
 use Rattle.lists.specs.Lists.{tabulate, count_of}
 use Rattle.choice.specs.Step.{taken}
-use Rattle.choice.specs.Taking.{takes}
 
 -- what the steps done so far leave
 pub record Progress : Type 0 where
@@ -25,7 +24,7 @@ module _ (marks : List ℕ) (offered : ℕ → Category → Bool) where
 
   -- whom step k takes
   unfoldable pub taken_at : ℕ → StepRule → Progress → ℕ → Bool
-  taken_at k rule done = taken (length marks) (takes rule marks) (considers rule done) (positions_at k rule done)
+  taken_at k rule done = taken rule.reserved marks (considers rule done) (positions_at k rule done)
 
   -- the positions that step k leaves vacant
   unfoldable pub vacant_at : ℕ → StepRule → Progress → ℕ

@@ -31,10 +31,10 @@ typed n types X used = tabulate n (λ p. cond (X p) (get_or types p 0) (get_or u
 -- the steps after one step, the positions that it leaves vacant, and the types used
 abbrev pub step_given : ℕ → List ℕ → List ℕ → (ℕ → Bool) → ℕ → List ℕ → List ℕ
 step_given number reserved marks considered positions given =
-    numbered (length marks) number (taken (length marks) (taken_for_use reserved marks) considered positions) given
+    numbered (length marks) number (taken reserved marks considered positions) given
 
 abbrev pub step_vacant : List ℕ → List ℕ → (ℕ → Bool) → ℕ → ℕ
-step_vacant reserved marks considered positions = positions - count_of (length marks) (taken (length marks) (taken_for_use reserved marks) considered positions)
+step_vacant reserved marks considered positions = positions - count_of (length marks) (taken reserved marks considered positions)
 
 abbrev pub step_types : List ℕ → List ℕ → (ℕ → Bool) → List ℕ → List ℕ
 step_types reserved marks considered used =
@@ -50,7 +50,7 @@ abbrev pub step_numbers : List ℕ → List ℕ → (ℕ → Bool) → ℕ → L
 step_numbers reserved marks considered positions =
     positions
     ∷ count_of (length marks) (taken_for_use reserved marks considered)
-    ∷ count_of (length marks) (taken_by_merit (length marks) (taken_for_use reserved marks) considered positions)
+    ∷ count_of (length marks) (taken_by_merit reserved marks considered positions)
     ∷ step_vacant reserved marks considered positions
-    ∷ last_of (length marks) (taken_by_merit (length marks) (taken_for_use reserved marks) considered positions)
+    ∷ last_of (length marks) (taken_by_merit reserved marks considered positions)
     ∷ []

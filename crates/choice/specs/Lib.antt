@@ -1,6 +1,5 @@
 pub mod Step
 pub mod Fill
-pub mod Taking
 pub mod Choice
 pub mod Account
 pub mod Handed

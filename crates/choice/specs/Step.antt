@@ -1,17 +1,18 @@
--- One step of an institute's choice, by its taking rule (document 01, "One institute chooses": "Within a step, ..").
--- Applicants stand at n places, from 0, in the order of the merit list; `considered` says which of them the step considers, and `takes` whom of those it
--- takes for its reserved positions.
-use Rattle.std.specs.Prelude.{ℕ, ◌+◌, Bool, not, ◌&&◌, ◌||◌, ltb}
+-- One step of an institute's choice (document 01, "One institute chooses": "Within a step, ..").
+-- Applicants stand at places, from 0, in the order of the merit list; `considered` says which of them the step considers.
+use Rattle.std.specs.Prelude.{ℕ, ◌+◌, Bool, not, ◌&&◌, ◌||◌, List, length, ltb}
 use Rattle.lists.specs.Lists.{count_of}
+use Rattle.matching.specs.ForUse.{taken_for_use}
 
-module _ (n : ℕ) (takes : (ℕ → Bool) → ℕ → Bool) (considered : ℕ → Bool) where
+module _ (reserved marks : List ℕ) (considered : ℕ → Bool) where
   -- considered, and left over
   unfoldable pub remaining : ℕ → Bool
-  remaining p = considered p && not (takes considered p)
+  remaining p = considered p && not (taken_for_use reserved marks considered p)
 
-  -- taken to fill the remaining positions by merit: those taken by the rule and the better ones left over leave a position
+  -- taken to fill the remaining positions by merit: those taken for use and the better ones left over leave a position
   unfoldable pub taken_by_merit : ℕ → ℕ → Bool
-  taken_by_merit positions p = remaining p && ltb (count_of n (takes considered) + count_of p remaining) positions
+  taken_by_merit positions p =
+      remaining p && ltb (count_of (length marks) (taken_for_use reserved marks considered) + count_of p remaining) positions
 
   unfoldable pub taken : ℕ → ℕ → Bool
-  taken positions p = takes considered p || taken_by_merit positions p
+  taken positions p = taken_for_use reserved marks considered p || taken_by_merit positions p

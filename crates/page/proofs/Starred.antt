@@ -17,7 +17,6 @@ use Rattle.lists.specs.Gathers.{gathered}
 use Rattle.matching.specs.FirstPlacing.{suits, first_placing, types_of}
 use Rattle.matching.specs.ForUse.{raises, taken_before, taken_for_use}
 use Rattle.choice.specs.Step.{remaining, taken_by_merit, taken}
-use Rattle.choice.specs.Taking.{takes, types_taken}
 use Rattle.choice.specs.Choice.{considers, positions_at, taken_at, vacant_at, advance, advance_all, nothing_done, choose}
 use Rattle.choice.specs.Account.{account_at, account_from, account, closing_place}
 use Rattle.offers.specs.Rows.{rank_in}
@@ -267,5 +266,5 @@ table =
     []
 
 pub starred : map (λ c. called c.file) table ≡ map (λ c. c.expected) table
-unfolding called start_of form_of questions_at verdict verdict_from step_in dereserved steps_in entry_in row_in candidate_in institute_from round_of holds one_less greatest_of use_of raises taken_before taken_for_use takes types_taken remaining taken_by_merit taken gathered suits first_placing types_of considers positions_at taken_at vacant_at advance advance_all nothing_done choose account_at account_from account closing_place rank_in place_on steps_on account_on made_to chosen seat_by seats_after may_offer turn turns tried offers_made seats account_at_end type_by types_used closing_count closing_width places_to closing_bytes answer_bytes outcome answer_after work_after decimal_by places_line page printed_for printed
+unfolding called start_of form_of questions_at verdict verdict_from step_in dereserved steps_in entry_in row_in candidate_in institute_from round_of holds one_less greatest_of use_of raises taken_before taken_for_use remaining taken_by_merit taken gathered suits first_placing types_of considers positions_at taken_at vacant_at advance advance_all nothing_done choose account_at account_from account closing_place rank_in place_on steps_on account_on made_to chosen seat_by seats_after may_offer turn turns tried offers_made seats account_at_end type_by types_used closing_count closing_width places_to closing_bytes answer_bytes outcome answer_after work_after decimal_by places_line page printed_for printed
 starred = refl

@@ -14,7 +14,6 @@ use Rattle.lists.specs.Numbers.{holds}
 use Rattle.matching.specs.Use.{one_less, use_of}
 use Rattle.matching.specs.ForUse.{raises, taken_before, taken_for_use}
 use Rattle.choice.specs.Step.{remaining, taken_by_merit, taken}
-use Rattle.choice.specs.Taking.{takes}
 use Rattle.choice.specs.Choice.{considers, positions_at, taken_at, vacant_at, advance, advance_all, nothing_done, choose}
 use Rattle.offers.specs.Rows.{rank_in}
 use Rattle.offers.specs.Offers.{place_on, steps_on, step_for, taken_from}
@@ -290,5 +289,5 @@ table =
 
 -- with a work area that suffices for each
 pub worked : map (λ c. outcome c.file c.list 32) table ≡ map (λ c. c.expected) table
-unfolding start_of form_of questions_at verdict verdict_from step_in dereserved steps_in entry_in row_in candidate_in institute_from round_of holds one_less greatest_of use_of raises taken_before taken_for_use takes remaining taken_by_merit taken considers positions_at taken_at vacant_at advance advance_all nothing_done choose rank_in place_on steps_on step_for taken_from seat_in seats_in is_step seat_rank seat_offers in_row listed_at step_due wrong with_entry would_take above best better entry_finding finding outcome
+unfolding start_of form_of questions_at verdict verdict_from step_in dereserved steps_in entry_in row_in candidate_in institute_from round_of holds one_less greatest_of use_of raises taken_before taken_for_use remaining taken_by_merit taken considers positions_at taken_at vacant_at advance advance_all nothing_done choose rank_in place_on steps_on step_for taken_from seat_in seats_in is_step seat_rank seat_offers in_row listed_at step_due wrong with_entry would_take above best better entry_finding finding outcome
 worked = refl

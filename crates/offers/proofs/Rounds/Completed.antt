@@ -16,9 +16,7 @@ use Rattle.round.specs.Places.{institute_at, no_step}
 use Rattle.round.specs.Sound.{SoundInstitute}
 use Rattle.lists.proofs.Words.{and_fst}
 use Rattle.choice.proofs.Offers.{offers_in}
-use Rattle.choice.specs.Taking.{Lawful}
-use Rattle.choice.proofs.Taking.{one_to_one}
-use Rattle.choice.proofs.Completion.{completion, completion_within, completion_stays, completion_grows, total_taken}
+use Rattle.choice.proofs.Completion.{Lawful, completion, completion_within, completion_stays, completion_grows, total_taken}
 use Rattle.lists.proofs.Counting.{sum_of_ext}
 use Rattle.offers.specs.Offers.{OfferSet, candidate_on, marks_on, at_places, place_on}
 use Rattle.lists.proofs.DoubleSums.{sum_through}
@@ -26,10 +24,10 @@ use Rattle.offers.proofs.Rounds.Fives.{five, five_same, five_none, five_is}
 use Rattle.offers.proofs.Rounds.Places.{merit_length, candidate_at_lem, candidate_below, place_of}
 
 -- each step's reserved positions are within its own
-lawful_steps : (marks : List ℕ) (rules : List StepRule)
-    → ((s : ℕ) → s < length rules → list_sum (get_or rules s no_step).reserved ≤ (get_or rules s no_step).own) → Lawful marks rules
-lawful_steps marks [] h = tt
-lawful_steps marks (rule ∷ rules) h = (one_to_one marks rule (h 0 (omega arith)), lawful_steps marks rules (λ s l. h (suc s) (omega arith)))
+lawful_steps : (rules : List StepRule)
+    → ((s : ℕ) → s < length rules → list_sum (get_or rules s no_step).reserved ≤ (get_or rules s no_step).own) → Lawful rules
+lawful_steps [] h = tt
+lawful_steps (rule ∷ rules) h = (h 0 (omega arith), lawful_steps rules (λ s l. h (suc s) (omega arith)))
 
 module _ (r : Round) (j : ℕ) where
   abbrev pub completed_at : OfferSet → ℕ → Category → Bool
@@ -57,8 +55,8 @@ module _ (r : Round) (j : ℕ) where
       subst (λ i. Y i c ≡ true) (candidate_at_lem r j i l) (completion_within (marks_on r j) (institute_at r j).steps (at_places r j Y) (place_on r j i) c t')
 
   module _ {n types : ℕ} (sound : SoundInstitute n types (institute_at r j)) where
-    pub lawful : Lawful (marks_on r j) (institute_at r j).steps
-    lawful = lawful_steps (marks_on r j) (institute_at r j).steps sound.reserved_within
+    pub lawful : Lawful (institute_at r j).steps
+    lawful = lawful_steps (institute_at r j).steps sound.reserved_within
 
     pub completed_stays : (Y Y' : OfferSet) → ((i : ℕ) (c : Category) → Y i c ≡ true → Y' i c ≡ true)
         → (i : ℕ) (c : Category) → Y i c ≡ true → completed Y i c ≡ false → completed Y' i c ≡ false
