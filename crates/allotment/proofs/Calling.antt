@@ -7,11 +7,11 @@ use native.Mathlib.Omega.{arith}
 use lib.Dec.{leb}
 use lib.ListN.{length, drop, replicate}
 use borrow.Author.Tests.{le-leb, lt-leb}
-use Rattle.questions.specs.declared.head.Head.{Head}
+use Rattle.questions.specs.Read.{as_head}
 use Rattle.questions.specs.declared.form.Form.{Form}
 use Rattle.reader.specs.declared.opened.Opened.{Opened}
 use Rattle.round.specs.Round.{Round}
-use Rattle.questions.specs.Records.{form_of, own_steps}
+use Rattle.questions.specs.Records.{Head, form_of, own_steps}
 use Rattle.questions.specs.Reading.{round_of}
 use Rattle.questions.specs.Refusal as verdicts
 use Rattle.questions.specs.Refusal.{verdict}
@@ -43,10 +43,10 @@ module _ {file : List ℕ} {o : Opened} {row starts : List ℕ} (hand : OpenedFi
   r = opened_round file o row
 
   -- the sizes that question 14 asks for, by the flag that code has found
-  module _ {listed : Bool} {asked : ℕ} (flag : listed ≡ own_steps o.head) (size : asked ≡ size_for o.head.form listed o.head.n o.head.m) where
+  module _ {listed : Bool} {asked : ℕ} (flag : listed ≡ own_steps (as_head o.head)) (size : asked ≡ size_for o.head.form listed o.head.candidates o.head.institutes) where
     size_here : answer_size o.head.form r ≡ asked
     size_here =
-        size_by o.head.form r listed o.head.n o.head.m (candidates_many hand) (institutes_many hand) (opened_listed hand ∙ sym flag) ∙ sym size
+        size_by o.head.form r listed o.head.candidates o.head.institutes (candidates_many hand) (institutes_many hand) (opened_listed hand ∙ sym flag) ∙ sym size
 
     pub answer_fits : {room : ℕ} → asked ≤ room → answer_size o.head.form r ≤ room
     answer_fits l = omega (arith, size_here)
@@ -55,10 +55,10 @@ module _ {file : List ℕ} {o : Opened} {row starts : List ℕ} (hand : OpenedFi
       pub answer_small : length answer < asked → Called o.head.form r answer work (Refused 14 0) answer work
       answer_small l = record { answered = rw (lt-leb (answer_size o.head.form r) (length answer) (omega (arith, size_here))); answer_area = refl; work_area = refl }
 
-      pub all_well : {offers : ℕ} {answerNow workNow : List ℕ} → asked ≤ length answer → 8 * o.head.n ≤ length work
+      pub all_well : {offers : ℕ} {answerNow workNow : List ℕ} → asked ≤ length answer → 8 * o.head.candidates ≤ length work
           → offers ≡ offers_made r
           → answerNow ≡ answer_bytes o.head.form r ++ drop (answer_size o.head.form r) answer
-          → workNow ≡ replicate (8 * o.head.n) 0 ++ drop (8 * o.head.n) work
+          → workNow ≡ replicate (8 * o.head.candidates) 0 ++ drop (8 * o.head.candidates) work
           → Called o.head.form r answer work (Allotted offers) answerNow workNow
       all_well {offers} l m told seen cleared = record {
         answered =
@@ -71,7 +71,7 @@ module _ {file : List ℕ} {o : Opened} {row starts : List ℕ} (hand : OpenedFi
         work_area = work_by_lem {what = offers} r work refl (candidates_many hand) cleared;
       }
 
-  pub work_small : {answer work : List ℕ} → length work < 8 * o.head.n → Called o.head.form r answer work (Refused 14 0) answer work
+  pub work_small : {answer work : List ℕ} → length work < 8 * o.head.candidates → Called o.head.form r answer work (Refused 14 0) answer work
   work_small {answer} {work} l = record {
     answered = rw (lt-leb (work_size r) (length work) (omega (arith, candidates_many hand))) (sym (no_room (leb (answer_size o.head.form r) (length answer)) _ _));
     answer_area = refl;

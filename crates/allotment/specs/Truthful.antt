@@ -9,7 +9,7 @@ use Rattle.allotment.specs.Outcome.{Accepted, answer_after}
 -- document 01's "alike in all but one row", that of candidate i: every other record is the same byte for byte, and so are the code and
 -- marks bytes of that candidate's record; its length goes with its row. The head is one of the others, so both files have one form
 pub record Alike (file other : List ℕ) (i : ℕ) : Type 0 where
-  pub candidate : i < (head_of file).n
+  pub candidate : i < (head_of file).candidates
   pub records : (k : ℕ) → k < record_count (head_of file) → k ≢ candidate_record (head_of file) i → record_of file k ≡ record_of other k
   pub codeAndMarks :
       take 2 (body_of file (candidate_record (head_of file) i)) ≡ take 2 (body_of other (candidate_record (head_of file) i))

@@ -50,15 +50,15 @@ fn write_each(
     requires row_value { opened_round file.now o row.now ≡ r }
     requires opened_file { OpenedFile file.now o row.now starts.now }
     requires held_in { HeldIn (seats r) holders.now steps.now × SeatsWanted r (length steps.now) holders.now steps.now wanted.now }
-    requires types_value { types.old ≡ replicate o.head.n 0 }
-    requires m_in_bounds { at + closing_width r.steps_listed * o.head.m ≤ length area.old }
+    requires types_value { types.old ≡ replicate o.head.candidates 0 }
+    requires institutes_in_bounds { at + closing_width r.steps_listed * o.head.institutes ≤ length area.old }
     ensures { (types.new ≡ types_used r)
-        × (area.new ≡ sets area.old at (joined (tabulate o.head.m (closing_bytes r)))) }
+        × (area.new ≡ sets area.old at (joined (tabulate o.head.institutes (closing_bytes r)))) }
 {
     let h = o.head;
     let listed = own_steps(h);
     let width = closing_width(listed);
-    for j in 0..h.m {
+    for j in 0..h.institutes {
         let mut noted = account_table();
         account_anew(file, o, row, starts, j, holders, wanted, types, &mut noted);
         write_institute(&noted, listed, area, at + width * j);
@@ -81,12 +81,12 @@ fn write_closings(
     requires row_value { opened_round file.now o row.now ≡ r }
     requires opened_file { OpenedFile file.now o row.now starts.now }
     requires held_in { HeldIn (seats r) holders.now steps.now }
-    requires types_value { types.old ≡ replicate o.head.n 0 }
-    requires m_in_bounds { at + closing_width r.steps_listed * o.head.m ≤ length area.old }
+    requires types_value { types.old ≡ replicate o.head.candidates 0 }
+    requires institutes_in_bounds { at + closing_width r.steps_listed * o.head.institutes ≤ length area.old }
     ensures { (types.new ≡ types_used r)
-        × (area.new ≡ sets area.old at (joined (tabulate o.head.m (closing_bytes r)))) }
+        × (area.new ≡ sets area.old at (joined (tabulate o.head.institutes (closing_bytes r)))) }
 {
-    let n = o.head.n;
+    let n = o.head.candidates;
     let mut wanted = zeros();
     seats_wanted(file, o, row, starts, holders, steps, &mut wanted[..n]);
     write_each(
@@ -128,17 +128,17 @@ pub fn write_answer(
     requires row_value { opened_round file.now o row.now ≡ r }
     requires opened_file { OpenedFile file.now o row.now starts.now }
     requires held_in { HeldIn (seats r) holders.now steps.now }
-    requires types_value { types.old ≡ replicate o.head.n 0 }
+    requires types_value { types.old ≡ replicate o.head.candidates 0 }
     requires r_in_bounds { answer_size o.head.form r ≤ length answer.old }
     ensures { answer.new ≡ answer_bytes o.head.form r ++ drop (answer_size o.head.form r) answer.old }
 {
     let h = o.head;
     let form = h.form;
-    let closings = seats_size(form, h.n);
+    let closings = seats_size(form, h.candidates);
     write_seats(form, holders, steps, answer);
     write_closings(
         file, o, row, starts, holders, steps, types, answer, closings,
     );
-    let placed = closings + closing_width(own_steps(h)) * h.m;
+    let placed = closings + closing_width(own_steps(h)) * h.institutes;
     write_types(types, answer, placed);
 }

@@ -31,8 +31,8 @@ fn seat_all(
     ghost r: { Round }
     requires row_value { opened_round file.now o row.now ≡ r }
     requires opened_file { OpenedFile file.now o row.now starts.now }
-    requires holders_value { (holders.old ≡ replicate o.head.n 0) × (steps.old ≡ replicate o.head.n 0)
-        × (types.old ≡ replicate o.head.n 0) }
+    requires holders_value { (holders.old ≡ replicate o.head.candidates 0) × (steps.old ≡ replicate o.head.candidates 0)
+        × (types.old ≡ replicate o.head.candidates 0) }
     requires r_in_bounds { answer_size o.head.form r ≤ length answer.old }
     ensures { (result ≡ offers_made r)
         × (answer.new ≡ answer_bytes o.head.form r ++ drop (answer_size o.head.form r) answer.old) }
@@ -57,9 +57,9 @@ fn allot_round(
     ensures { Called o.head.form r answer.old work.old result answer.new work.new }
 {
     let h = o.head;
-    let n = h.n;
+    let n = h.candidates;
     let form = h.form;
-    if answer.len() < answer_size(form, own_steps(h), n, h.m) {
+    if answer.len() < answer_size(form, own_steps(h), n, h.institutes) {
         return Answer::Refused {
             number: 14,
             offset: 0,

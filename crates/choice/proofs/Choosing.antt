@@ -35,7 +35,7 @@ pub fewer_rules : {types n m : ℕ} {table : List ℕ} → m ≤ n → RuleTable
 fewer_rules {types} l t = record {
   types_most = t.types_most;
   steps_most = omega (arith, t.steps_most);
-  room = omega (arith, t.room, mul-le-mul_right (3 + types) l);
+  long = omega (arith, t.long, mul-le-mul_right (3 + types) l);
   coded = λ k b. t.coded k (omega arith);
   handed_on = λ k b. t.handed_on k (omega arith);
   own_most = λ k b. t.own_most k (omega arith);
@@ -43,7 +43,7 @@ fewer_rules {types} l t = record {
 
 -- a row lies within the table
 row_within : (types k : ℕ) (table : List ℕ) → RuleTable types (suc k) table → k * (3 + types) + (3 + types) ≤ length table
-row_within types k table t = omega (arith, t.room, suc-mul k (3 + types))
+row_within types k table t = omega (arith, t.long, suc-mul k (3 + types))
 
 -- the part of a row that has the reserved positions
 reserved_part : (types k : ℕ) (table : List ℕ) → RuleTable types (suc k) table

@@ -14,23 +14,23 @@ use Rattle.offers.specs.Process.{candidate_count, institute_count}
 use Rattle.offers.proofs.Rounds.Bounds.{merit_short}
 
 module _ {file : List ℕ} {o : Opened} {row starts : List ℕ} (hand : OpenedFile file o row starts) where
-  pub candidates_many : candidate_count (opened_round file o row) ≡ o.head.n
+  pub candidates_many : candidate_count (opened_round file o row) ≡ o.head.candidates
   candidates_many = opened_candidates hand
 
-  pub institutes_many : institute_count (opened_round file o row) ≡ o.head.m
+  pub institutes_many : institute_count (opened_round file o row) ≡ o.head.institutes
   institutes_many = opened_institutes hand
 
   pub round_sound : Sound o.head.types (opened_round file o row)
   round_sound = opened_sound hand
 
-  pub candidates_few : o.head.n ≤ 512
+  pub candidates_few : o.head.candidates ≤ 512
   candidates_few = omega (arith, candidates_many, round_sound.candidates_most)
 
-  pub institutes_few : o.head.m ≤ 1000
+  pub institutes_few : o.head.institutes ≤ 1000
   institutes_few = omega (arith, institutes_many, round_sound.institutes_most_is)
 
   -- an institute, with its merit list
-  module _ {j : ℕ} (inside : j < o.head.m) where
+  module _ {j : ℕ} (inside : j < o.head.institutes) where
     pub institute_sound : SoundInstitute (candidate_count (opened_round file o row)) o.head.types (institute_at (opened_round file o row) j)
     institute_sound = round_sound.institute j (omega (arith, institutes_many))
 
@@ -42,18 +42,18 @@ module _ {file : List ℕ} {o : Opened} {row starts : List ℕ} (hand : OpenedFi
       pub number_least : 1 ≤ number
       number_least = omega (arith, institute_sound.merit_from p within)
 
-      pub number_most : number - 1 < o.head.n
+      pub number_most : number - 1 < o.head.candidates
       number_most = omega (arith, institute_sound.merit_from p within, institute_sound.merit_to p within, candidates_many)
 
   -- a table of zeros has a place for each candidate
   module _ {table : List ℕ} (e : table ≡ replicate 512 0) where
-    pub places : o.head.n ≤ length table
+    pub places : o.head.candidates ≤ length table
     places = room candidates_few e
 
-    pub places_many : length (take o.head.n table) ≡ o.head.n
+    pub places_many : length (take o.head.candidates table) ≡ o.head.candidates
     places_many = front_each candidates_few e
 
-    pub places_zero : take o.head.n table ≡ replicate o.head.n 0
+    pub places_zero : take o.head.candidates table ≡ replicate o.head.candidates 0
     places_zero = front_zero candidates_few e
 
 pub zeros_room : (n : ℕ) (l : List ℕ) → l ≡ replicate n 0 → n ≤ length l

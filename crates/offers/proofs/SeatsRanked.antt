@@ -55,7 +55,7 @@ module _ (last number : ℕ) {a : Bool} (told : a ≡ within 1 last number) (t :
   pub tested_inside : number - 1 < last
   tested_inside = omega (arith, tested_least, tested_most refl)
 
-module _ {file : List ℕ} {o : Opened} {row starts list : List ℕ} (at : UnderReview file o row starts list) {i : ℕ} (inside : i < o.head.n) where
+module _ {file : List ℕ} {o : Opened} {row starts list : List ℕ} (at : UnderReview file o row starts list) {i : ℕ} (inside : i < o.head.candidates) where
   abbrev r : Round
   r = opened_round file o row
 
@@ -70,12 +70,12 @@ module _ {file : List ℕ} {o : Opened} {row starts list : List ℕ} (at : Under
   bytes_seat = seat_at o.head.form r list i (omega (arith, candidates_many at.hand))
 
   -- by what the code has read of the seat's institute and tested
-  module _ {number : ℕ} {a : Bool} (reads : number ≡ (seat_in o.head.form list i).institute) (told : a ≡ within 1 o.head.m number) where
+  module _ {number : ℕ} {a : Bool} (reads : number ≡ (seat_in o.head.form list i).institute) (told : a ≡ within 1 o.head.institutes number) where
     -- it is none of the round
     pub above_no_institute : not a ≡ true → {x : ℕ} → x ≡ length (row_at r i) → x ≡ above r seats i
     unfolding above is_step
     above_no_institute f e =
-        e ∙ sym (rank_none r i (seat_on seats i) (rw (bytes_seat, institutes_many at.hand, within_no 1 o.head.m reads told f)))
+        e ∙ sym (rank_none r i (seat_on seats i) (rw (bytes_seat, institutes_many at.hand, within_no 1 o.head.institutes reads told f)))
 
     -- and of its step
     module _ {last step : ℕ} {b : Bool} (last-is : last ≡ step_numbers r (number - 1))
@@ -95,7 +95,7 @@ module _ {file : List ℕ} {o : Opened} {row starts list : List ℕ} (at : Under
           rw (
             bytes_seat,
             institutes_many at.hand,
-            within_yes 1 o.head.m reads told t,
+            within_yes 1 o.head.institutes reads told t,
             ← reads,
             ← last-is,
             within_yes 1 last reads-step told-step u,

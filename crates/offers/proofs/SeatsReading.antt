@@ -33,21 +33,21 @@ module _ {file : List ℕ} {o : Opened} {row starts list : List ℕ} (at : Under
   abbrev seats : List Seat
   seats = list_of o.head.form r list
 
-  pub none_read : {asked wanted : List ℕ} → asked ≡ replicate o.head.n 0 → length wanted ≡ o.head.n → SeatsRead r seats 0 asked wanted
+  pub none_read : {asked wanted : List ℕ} → asked ≡ replicate o.head.candidates 0 → length wanted ≡ o.head.candidates → SeatsRead r seats 0 asked wanted
   none_read e many = record {
-    asked_many = sized o.head.n e ∙ sym (candidates_many at.hand);
+    asked_many = sized o.head.candidates e ∙ sym (candidates_many at.hand);
     wanted_many = many ∙ sym (candidates_many at.hand);
     asked_at = λ i l. absurd (omega arith);
     wanted_at = λ i l. absurd (omega arith);
     nobody = λ i l. absurd (omega arith);
-    later = λ i l. ap (λ (t : List ℕ). get_or t i 0) e ∙ get_or_zeros o.head.n i;
+    later = λ i l. ap (λ (t : List ℕ). get_or t i 0) e ∙ get_or_zeros o.head.candidates i;
   }
 
   -- each table has a place for each candidate
-  pub asked_long : {k : ℕ} {asked wanted : List ℕ} → SeatsRead r seats k asked wanted → length asked ≡ o.head.n
+  pub asked_long : {k : ℕ} {asked wanted : List ℕ} → SeatsRead r seats k asked wanted → length asked ≡ o.head.candidates
   asked_long s = s.asked_many ∙ candidates_many at.hand
 
-  pub wanted_long : {k : ℕ} {asked wanted : List ℕ} → SeatsRead r seats k asked wanted → length wanted ≡ o.head.n
+  pub wanted_long : {k : ℕ} {asked wanted : List ℕ} → SeatsRead r seats k asked wanted → length wanted ≡ o.head.candidates
   wanted_long s = s.wanted_many ∙ candidates_many at.hand
 
   -- and the list has a seat's bytes for each of these places
@@ -55,10 +55,10 @@ module _ {file : List ℕ} {o : Opened} {row starts list : List ℕ} (at : Under
   list_long s = at.size ∙ ap (λ (n : ℕ). seat_width o.head.form * n) (sym (asked_long s))
 
   -- all candidates are passed
-  pub all_read : {k : ℕ} {asked wanted : List ℕ} → SeatsRead r seats k asked wanted → k ≡ o.head.n → AllRead r o.head.form list asked wanted
+  pub all_read : {k : ℕ} {asked wanted : List ℕ} → SeatsRead r seats k asked wanted → k ≡ o.head.candidates → AllRead r o.head.form list asked wanted
   all_read {asked = asked} {wanted = wanted} s e = subst (λ n. SeatsRead r seats n asked wanted) (e ∙ sym (candidates_many at.hand)) s
 
-  module _ {k : ℕ} (inside : k < o.head.n) {b : Bool} (told : b ≡ in_row r seats k) where
+  module _ {k : ℕ} (inside : k < o.head.candidates) {b : Bool} (told : b ≡ in_row r seats k) where
     -- the seat in the row names an institute and a step of it, as the code has read them
     module _ {number : ℕ} (reads : number ≡ (seat_in o.head.form list k).institute) (t : b ≡ true) where
       numbers : (1 ≤ number) × (number ≤ institute_count r) × (1 ≤ (seat_in o.head.form list k).step) × ((seat_in o.head.form list k).step ≤ step_numbers r (number - 1))
@@ -68,7 +68,7 @@ module _ {file : List ℕ} {o : Opened} {row starts list : List ℕ} (at : Under
       row_institute_least = numbers.0
 
       pub row_step_known : {step : ℕ} → step ≡ (seat_in o.head.form list k).step
-          → (number - 1 < o.head.m) × (1 ≤ step) × (step ≤ step_numbers r (number - 1))
+          → (number - 1 < o.head.institutes) × (1 ≤ step) × (step ≤ step_numbers r (number - 1))
       row_step_known e = (omega (arith, numbers.0, numbers.1, institutes_many at.hand), rw e numbers.2, rw e numbers.3)
 
     module _ {asked wanted : List ℕ} (s : SeatsRead r seats k asked wanted) where

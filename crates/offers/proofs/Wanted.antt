@@ -61,13 +61,13 @@ wanted_same e w = rw e w
 
 -- the arrays that hold the list of the round have a place for each candidate
 module _ {file : List ℕ} {o : Opened} {row starts : List ℕ} (hand : OpenedFile file o row starts) where
-  pub holders_each : {holders steps : List ℕ} → HeldIn (seats (opened_round file o row)) holders steps → length holders ≡ o.head.n
+  pub holders_each : {holders steps : List ℕ} → HeldIn (seats (opened_round file o row)) holders steps → length holders ≡ o.head.candidates
   holders_each list = list.holders_many ∙ list_length (opened_round file o row) ∙ candidates_many hand
 
-  pub steps_each : {holders steps : List ℕ} → HeldIn (seats (opened_round file o row)) holders steps → length steps ≡ o.head.n
+  pub steps_each : {holders steps : List ℕ} → HeldIn (seats (opened_round file o row)) holders steps → length steps ≡ o.head.candidates
   steps_each list = list.steps_many ∙ list_length (opened_round file o row) ∙ candidates_many hand
 
-  pub wanted_each : {k : ℕ} {holders steps wanted : List ℕ} → HeldIn (seats (opened_round file o row)) holders steps → SeatsWanted (opened_round file o row) k holders steps wanted → length wanted ≡ o.head.n
+  pub wanted_each : {k : ℕ} {holders steps wanted : List ℕ} → HeldIn (seats (opened_round file o row)) holders steps → SeatsWanted (opened_round file o row) k holders steps wanted → length wanted ≡ o.head.candidates
   wanted_each list wants = wants.many ∙ steps_each list
 
 -- two arrays hold the list of the round
@@ -107,7 +107,7 @@ module _ {file : List ℕ} {o : Opened} {row starts : List ℕ} (hand : OpenedFi
     at : (get_or steps i 0 ≡ step_in r (tried r) (number - 1) i) × (step_in r (tried r) (number - 1) i ≢ 0)
     at = seat_step i (number - 1) inside below (sym e ∙ sym holder)
 
-    pub seat_known : number - 1 < o.head.m
+    pub seat_known : number - 1 < o.head.institutes
     seat_known = omega (arith, below, institutes_many hand)
 
     pub seat_least : {step : ℕ} → step ≡ get_or steps i 0 → 1 ≤ step

@@ -37,7 +37,7 @@ list_of form r list = seats_in form (candidate_count r) list
 -- an opened round, and a list with a seat's bytes for each candidate
 pub record UnderReview (file : List ℕ) (o : Opened) (row starts list : List ℕ) : Type 0 where
   pub hand : OpenedFile file o row starts
-  pub size : length list ≡ seat_width o.head.form * o.head.n
+  pub size : length list ≡ seat_width o.head.form * o.head.candidates
 
 -- of the first k candidates two tables have the seats that are in their rows, and of nobody else any
 pub record SeatsRead (r : Round) (list : List Seat) (k : ℕ) (asked wanted : List ℕ) : Type 0 where

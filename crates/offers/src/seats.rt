@@ -30,7 +30,7 @@ fn is_entry(
     ghost r: { Round }
     requires row_value { opened_round file.now o row.now ≡ r }
     requires opened_file { OpenedFile file.now o row.now starts.now }
-    requires i_lt_n { (i < o.head.n) × (k < length (row_at r i)) }
+    requires i_lt_candidates { (i < o.head.candidates) × (k < length (row_at r i)) }
     ensures { result ≡ same_entry (entry_at (candidate_at r i) k) (record { institute = number; category = category }) }
 {
     let entry = row_entry(file, o, row, starts, i, k);
@@ -52,7 +52,7 @@ pub fn rank_in(
     ghost r: { Round }
     requires row_value { opened_round file.now o row.now ≡ r }
     requires opened_file { OpenedFile file.now o row.now starts.now }
-    requires i_lt_n { i < o.head.n }
+    requires i_lt_candidates { i < o.head.candidates }
     ensures { result ≡ rank_in (row_at r i) (record { institute = number; category = category }) }
 {
     let size = row_length(file, o, row, starts, i);
@@ -76,14 +76,14 @@ pub fn entries_above(
     ghost r: { Round }
     requires row_value { opened_round file.now o row.now ≡ r }
     requires under_review { UnderReview file.now o row.now starts.now list.now }
-    requires i_lt_n { i < o.head.n }
+    requires i_lt_candidates { i < o.head.candidates }
     ensures { result ≡ above r (list_of o.head.form r list.now) i }
 {
     let h = o.head;
     let form = h.form;
     let institute = institute_at(list, form, i);
     let step = step_at(list, form, i);
-    if !within(1, h.m, institute) {
+    if !within(1, h.institutes, institute) {
         return row_length(file, o, row, starts, i);
     }
     let j = institute - 1;
@@ -99,7 +99,7 @@ fn in_row(file: &[u8], o: Opened, row: &[u8], starts: &[u32], list: &[u8], i: us
     ghost r: { Round }
     requires row_value { opened_round file.now o row.now ≡ r }
     requires under_review { UnderReview file.now o row.now starts.now list.now }
-    requires i_lt_n { i < o.head.n }
+    requires i_lt_candidates { i < o.head.candidates }
     ensures { result ≡ in_row r (list_of o.head.form r list.now) i }
 {
     entries_above(file, o, row, starts, list, i) < row_length(file, o, row, starts, i)
@@ -118,7 +118,7 @@ pub fn read_seats(
     ghost r: { Round }
     requires row_value { opened_round file.now o row.now ≡ r }
     requires under_review { UnderReview file.now o row.now starts.now list.now }
-    requires asked_value { (asked.old ≡ replicate o.head.n 0) × (length wanted.old ≡ o.head.n) }
+    requires asked_value { (asked.old ≡ replicate o.head.candidates 0) × (length wanted.old ≡ o.head.candidates) }
     ensures { AllRead r o.head.form list.now asked.new wanted.new }
 {
     let h = o.head;

@@ -7,11 +7,11 @@ use native.Mathlib.Omega.{arith}
 use lib.ListN.{length, get_or, take, drop, length-append}
 use mir.Syntax.{w8, w64}
 use mir.Val as val
-use Rattle.questions.specs.declared.head.Head.{Head}
+use Rattle.questions.specs.declared.head.Head.{Head as CodeHead}
 use Rattle.questions.specs.declared.form.Form.{Form}
-use Rattle.questions.specs.Records.{head_in, head_of, own_steps, form_of, length_at}
+use Rattle.questions.specs.Records.{Head, head_in, head_of, own_steps, form_of, length_at}
 use Rattle.questions.specs.Reading.{round_of}
-use Rattle.questions.specs.Read.{InRange}
+use Rattle.questions.specs.Read.{as_head, InRange}
 use Rattle.questions.proofs.Answers as answers
 use Rattle.questions.proofs.Forms.{institutes_few}
 use Rattle.questions.proofs.Passed.{passed}
@@ -38,36 +38,36 @@ module _ {file : List ℕ} {offers : ℕ} {answer : List ℕ} (known : Answered 
   head_there = omega (arith, lead.body_there, head_length)
 
   -- the numbers that stand in the head
-  module _ {form : Form} {h : Head} (formed : form ≡ form_of file) (read : h ≡ head_in form (take 8 (drop 4 file))) where
-    same_head : h ≡ head_of file
+  module _ {form : Form} {h : CodeHead} (formed : form ≡ form_of file) (read : as_head h ≡ head_in form (take 8 (drop 4 file))) where
+    same_head : as_head h ≡ head_of file
     same_head = read ∙ ap₂ (λ (f : Form) (n : ℕ). head_in f (take n (drop 4 file))) formed (sym head_length)
 
-    range : InRange h
+    range : InRange (as_head h)
     range = rw same_head (head_fits file (passed file known.accepted))
 
-    candidates_many : h.n ≡ candidate_count (round_of file)
-    candidates_many = ap (λ (k : Head). k.n) same_head ∙ sym (length_candidates file)
+    candidates_many : h.candidates ≡ candidate_count (round_of file)
+    candidates_many = ap (λ (k : Head). k.candidates) same_head ∙ sym (length_candidates file)
 
-    institutes_many : h.m ≡ institute_count (round_of file)
-    institutes_many = ap (λ (k : Head). k.m) same_head ∙ sym (length_institutes file)
+    institutes_many : h.institutes ≡ institute_count (round_of file)
+    institutes_many = ap (λ (k : Head). k.institutes) same_head ∙ sym (length_institutes file)
 
-    pub candidates_most : h.n ≤ 512
+    pub candidates_most : h.candidates ≤ 512
     candidates_most = range.candidates_most
 
-    pub institutes_most_is : h.m ≤ 1000
+    pub institutes_most_is : h.institutes ≤ 1000
     institutes_most_is = omega (arith, range.institutes_most_is, institutes_few h.form)
 
-    seats_few : (i : ℕ) → i < h.n → ((seat_in form answer i).institute < 10000) × ((seat_in form answer i).step < 100)
+    seats_few : (i : ℕ) → i < h.candidates → ((seat_in form answer i).institute < 10000) × ((seat_in form answer i).step < 100)
     seats_few i l =
         rw (formed, known.stands)
         (digits_few (form_of file) (round_of file) (sound file known.accepted) known.rest i (omega (arith, candidates_many)))
 
     -- whether the institutes list their own steps
-    module _ {listed : Bool} (told : listed ≡ own_steps h) where
+    module _ {listed : Bool} (told : listed ≡ own_steps (as_head h)) where
       same_listed : listed ≡ (round_of file).steps_listed
       same_listed = told ∙ ap own_steps same_head ∙ sym (listed_round file)
 
-      pub answer_there : size_for form listed h.n h.m ≤ length answer
+      pub answer_there : size_for form listed h.candidates h.institutes ≤ length answer
       answer_there =
           rw (formed, same_listed, candidates_many, institutes_many)
           (omega (
@@ -78,7 +78,7 @@ module _ {file : List ℕ} {offers : ℕ} {answer : List ℕ} (known : Answered 
           ))
 
       pub page_fits : {area : List ℕ} → 94208 ≤ length area → val.Fits w64 offers → ((i : ℕ) → val.Fits w8 (get_or answer i 0))
-          → Fits area 0 (page_in form listed offers h.n h.m answer)
+          → Fits area 0 (page_in form listed offers h.candidates h.institutes answer)
       page_fits l few bytes = record {
         room = omega (
           arith,
@@ -86,11 +86,11 @@ module _ {file : List ℕ} {offers : ℕ} {answer : List ℕ} (known : Answered 
         );
       }
 
-      page_read : page_in form listed offers h.n h.m answer ≡ page (round_of file)
+      page_read : page_in form listed offers h.candidates h.institutes answer ≡ page (round_of file)
       page_read =
           rw (formed, same_listed, known.counted, candidates_many, institutes_many, known.stands)
           (page_stands (form_of file) (round_of file) (sound file known.accepted) known.rest)
 
       pub answered_front : {area now : List ℕ} {size : ℕ} → 94208 ≤ length area → val.Fits w64 offers → ((i : ℕ) → val.Fits w8 (get_or answer i 0))
-          → Put area 0 (page_in form listed offers h.n h.m answer) now size → Front area (page (round_of file)) now size
+          → Put area 0 (page_in form listed offers h.candidates h.institutes answer) now size → Front area (page (round_of file)) now size
       answered_front l few bytes p = rw page_read at (front_put (page_fits l few bytes) p)

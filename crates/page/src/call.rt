@@ -40,7 +40,15 @@ fn put_answered(page: &mut [u8], file: &[u8], offers: usize, answer: &[u8]) -> u
 {
     let form = form_of(file);
     let h = head_in(&file[4..12], form);
-    put_allotment(page, form, own_steps(h), offers, h.n, h.m, answer)
+    put_allotment(
+        page,
+        form,
+        own_steps(h),
+        offers,
+        h.candidates,
+        h.institutes,
+        answer,
+    )
 }
 
 // The page of a round file, or the line of its refusal.

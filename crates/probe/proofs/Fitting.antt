@@ -8,10 +8,10 @@ use native.Mathlib.Omega.{arith}
 use lib.Dec.{leb, eqb}
 use lib.ListN.{length}
 use borrow.Author.Tests.{leb-true, eqb-true, lt-leb, le-leb}
-use Rattle.questions.specs.declared.head.Head.{Head}
-use Rattle.questions.specs.Records.{own_steps}
+use Rattle.questions.specs.declared.head.Head.{Head as CodeHead}
+use Rattle.questions.specs.Records.{Head, own_steps}
 use Rattle.questions.specs.Questions.{institute_allowed, list_questions, first_no}
-use Rattle.questions.specs.Read.{InRange, InstituteBody, LawfulSteps}
+use Rattle.questions.specs.Read.{as_head, InRange, InstituteBody, LawfulSteps}
 use Rattle.round.specs.Round.{StepRule}
 use Rattle.questions.specs.Reading.{steps_in}
 use Rattle.round.specs.Rules.{rules_in, RuleTable}
@@ -32,8 +32,8 @@ module _ (types policy : ℕ) (body : List ℕ) where
     pub other_policy : 2 < policy → false ≡ body_fits (head_with types policy) body
     other_policy l = rw (le-leb types 8 few, lt-leb policy 2 l)
 
-    module _ (known : policy ≤ 2) {k : Head} (head : k ≡ head_with types policy) where
-      pub in_range : InRange k
+    module _ (known : policy ≤ 2) {k : CodeHead} (head : as_head k ≡ head_with types policy) where
+      pub in_range : InRange (as_head k)
       in_range = rw head record {
         candidates_least = omega arith;
         candidates_most = omega arith;
@@ -43,7 +43,7 @@ module _ (types policy : ℕ) (body : List ℕ) where
         policy_most = known;
       }
 
-      module _ {b : Bool} (told : b ≡ institute_allowed k (length body)) where
+      module _ {b : Bool} (told : b ≡ institute_allowed (as_head k) (length body)) where
         allowed : {x : Bool} → not b ≡ x → institute_allowed (head_with types policy) (length body) ≡ not x
         allowed {x} e = sym (told ∙ ap (λ (h : Head). institute_allowed h (length body)) head) ∙ sym (not-not b) ∙ ap not e
 
@@ -51,14 +51,14 @@ module _ (types policy : ℕ) (body : List ℕ) where
         other_length e = rw (le-leb types 8 few, le-leb policy 2 known, allowed e)
 
         module _ (e : not b ≡ false) where
-          pub long : InstituteBody k body
+          pub long : InstituteBody (as_head k) body
           long = rw head (institute_body (head_with types policy) body few (allowed e))
 
-          module _ {own : Bool} (flag : own ≡ own_steps k) where
+          module _ {own : Bool} (flag : own ≡ own_steps (as_head k)) where
             listed : {x : Bool} → own ≡ x → own_steps (head_with types policy) ≡ x
             listed f = sym (flag ∙ ap (λ (h : Head). own_steps h) head) ∙ f
 
-            pub by_list : {n : ℕ} → own ≡ true → n ≡ first_no (list_questions k body) → eqb n 0 ≡ body_fits (head_with types policy) body
+            pub by_list : {n : ℕ} → own ≡ true → n ≡ first_no (list_questions (as_head k) body) → eqb n 0 ≡ body_fits (head_with types policy) body
             by_list f d =
                 ap (λ (n : ℕ). eqb n 0)
                 (d
@@ -79,11 +79,11 @@ body_lawful h body e =
     steps_lawful h body long (λ own. list_yes h body (sym (ap (λ (b : Bool). first_no (cond b (list_questions h body) [])) own) ∙ none))
 
 -- by what code has found
-module _ {k : Head} (types policy : ℕ) (body : List ℕ) (head : k ≡ head_with types policy) where
-  pub lawful : {b : Bool} → b ≡ body_fits (head_with types policy) body → not b ≡ false → LawfulSteps k body
+module _ {k : CodeHead} (types policy : ℕ) (body : List ℕ) (head : as_head k ≡ head_with types policy) where
+  pub lawful : {b : Bool} → b ≡ body_fits (head_with types policy) body → not b ≡ false → LawfulSteps (as_head k) body
   lawful told t = rw head (body_lawful (head_with types policy) body (was_yes told t))
 
-  pub table_for : {table : List ℕ} {count : ℕ} → RulesRead k body table count → RuleTable types count table
+  pub table_for : {table : List ℕ} {count : ℕ} → RulesRead (as_head k) body table count → RuleTable types count table
   table_for {table} {count} r = subst (λ (h : Head). RuleTable h.types count table) head r.table_of
 
 pub placed : (marks offers steps used : List ℕ) {b : Bool} → b ≡ places_fit (length marks) (length offers) (length steps) (length used) → not b ≡ false → Places marks offers steps used
@@ -109,7 +109,7 @@ module _ (body : List ℕ) (types policy : ℕ) (marks offers steps used : List 
   module _ {b c : Bool} (told : b ≡ body_fits h body) (counted : c ≡ places_fit (length marks) (length offers) (length steps) (length used)) where
     -- the steps and types of the rules that the body gives
     pub chosen : {steps' used' : List ℕ} (table : List ℕ) (count : ℕ) → not b ≡ false → not c ≡ false
-        → {k : Head} → k ≡ h → RulesRead k body table count
+        → {k : CodeHead} → as_head k ≡ h → RulesRead (as_head k) body table count
         → steps' ≡ choose marks (offered_by offers) (rules_in types count table)
         → used' ≡ types_in (length marks) (account marks (offered_by offers) (rules_in types count table))
         → Chosen body types policy marks offers steps used steps' used'

@@ -1,8 +1,7 @@
 -- What the probes give.
 use Rattle.std.specs.Prelude.{ℕ, ◌≡◌, Bool, cond, ◌&&◌, List, [], leb, eqb, length, set}
-use Rattle.questions.specs.declared.head.Head.{Head}
 use Rattle.questions.specs.declared.form.Form.TheVariants.{Narrow}
-use Rattle.questions.specs.Records.{own_steps}
+use Rattle.questions.specs.Records.{Head, own_steps}
 use Rattle.questions.specs.Questions.{institute_allowed, list_questions, first_no}
 use Rattle.questions.specs.Refusal.{Verdict, passes, refused}
 use Rattle.questions.specs.Reading.{steps_in}
@@ -17,7 +16,7 @@ verdict_in numbers (refused number offset) = set (set numbers 0 number) 1 offset
 
 -- a head with so many types and a policy
 abbrev pub head_with : ℕ → ℕ → Head
-head_with types policy = record { form = Narrow; n = 1; m = 1; types = types; policy = policy }
+head_with types policy = record { form = Narrow; candidates = 1; institutes = 1; types = types; policy = policy }
 
 -- at most 8 types, a policy that there is, and an institute's body of an allowed length; where it lists its own steps, 17 and 18 are answered yes
 abbrev pub body_fits : Head → List ℕ → Bool

@@ -5,6 +5,7 @@
 ghost use Rattle.std.specs.Prelude.{◌≡◌};
 ghost use Rattle.questions.specs.Refusal.{verdict};
 ghost use Rattle.probe.specs.Probe.{verdict_in, head_with, body_fits, places_fit, Chosen};
+ghost use Rattle.questions.specs.Read.{as_head};
 
 use choice::account::account_table;
 use choice::choose;
@@ -35,12 +36,12 @@ pub fn tazbilk_verdict(file: &[u8], res: &mut [u64; 2])
 
 // A head with so many types and a policy.
 fn head_with(types: usize, policy: usize) -> Head
-    ensures { result ≡ head_with types policy }
+    ensures { as_head result ≡ head_with types policy }
 {
     Head {
         form: Form::Narrow,
-        n: 1,
-        m: 1,
+        candidates: 1,
+        institutes: 1,
         types,
         policy,
     }

@@ -9,11 +9,10 @@ use native.Mathlib.Nat.{div-add-mod'}
 use borrow.Author.Tests.{leb-true, eqb-true, eqb-false, le-leb, eq-eqb}
 use lib.Dec.{leb, eqb}
 use lib.ListN.{length, get_or, drop, length-take, length-drop}
-use Rattle.questions.specs.declared.head.Head.{Head}
 use Rattle.questions.specs.declared.form.Form.{Form}
 use Rattle.questions.specs.Form.{institutes_most, entry_width}
 use Rattle.lists.specs.Lists.{sum_of}
-use Rattle.questions.specs.Records.{head_in, kind_at, length_at, body_at, own_steps, kind_due}
+use Rattle.questions.specs.Records.{Head, head_in, kind_at, length_at, body_at, own_steps, kind_due}
 use Rattle.questions.specs.Steps.{step_width, step_count, positions_in, reserved_in, step_code, receiver_in}
 use Rattle.lists.specs.Numbers.{within}
 use Rattle.questions.specs.Questions.{institute_allowed, length_allowed, first_no, questions_at, kind_questions, head_questions, list_questions, institute_questions, row_questions, row_bytes, candidate_questions, merit_questions, entry_count, institute_in, code_in, merit_count, merit_in}
@@ -74,13 +73,13 @@ pub head_yes : (form : Form) (body : List ℕ) → first_no (head_questions form
 head_yes form body e =
     let h = head_in form body in
     let a = (yes 4 _ _ e).0 in
-    let b = and_snd (within 1 512 h.n) _ a in
-    let c = and_snd (within 1 (institutes_most form) h.m) _ b in
+    let b = and_snd (within 1 512 h.candidates) _ a in
+    let c = and_snd (within 1 (institutes_most form) h.institutes) _ b in
     record {
-      candidates_least = within_from 1 512 h.n (and_fst _ _ a);
-      candidates_most = within_to 1 512 h.n (and_fst _ _ a);
-      institutes_least = within_from 1 (institutes_most form) h.m (and_fst _ _ b);
-      institutes_most_is = within_to 1 (institutes_most form) h.m (and_fst _ _ b);
+      candidates_least = within_from 1 512 h.candidates (and_fst _ _ a);
+      candidates_most = within_to 1 512 h.candidates (and_fst _ _ a);
+      institutes_least = within_from 1 (institutes_most form) h.institutes (and_fst _ _ b);
+      institutes_most_is = within_to 1 (institutes_most form) h.institutes (and_fst _ _ b);
       types_most = leb-true _ _ (and_fst _ _ c);
       policy_most = leb-true _ _ (and_snd (leb h.types 8) _ c);
     }
@@ -152,13 +151,13 @@ pub record CandidateYes (form : Form) (institutes types : ℕ) (body : List ℕ)
   pub marks_held : get_or body 1 0 < 2 ^ types
   pub row_lawful : RowYes form institutes (get_or body 0 0) (row_bytes body)
 
-pub candidate_yes : (h : Head) (body : List ℕ) → first_no (candidate_questions h body) ≡ 0 → CandidateYes h.form h.m h.types body
+pub candidate_yes : (h : Head) (body : List ℕ) → first_no (candidate_questions h body) ≡ 0 → CandidateYes h.form h.institutes h.types body
 candidate_yes h body e =
     let a = yes 7 _ _ e in
     record {
       own_code = leb-true _ _ (and_fst _ _ a.0);
       marks_held = leb-true _ _ (and_snd (leb (get_or body 0 0) 4) _ a.0);
-      row_lawful = row_yes h.form h.m (get_or body 0 0) (row_bytes body) a.1;
+      row_lawful = row_yes h.form h.institutes (get_or body 0 0) (row_bytes body) a.1;
     }
 
 -- 11 and 12
@@ -167,15 +166,15 @@ pub record MeritYes (candidates : ℕ) (body : List ℕ) : Type 0 where
   pub merit_to : (p : ℕ) → p < merit_count body → merit_in body p ≤ candidates
   pub merit_differs : (p q : ℕ) → p < q → q < merit_count body → merit_in body p ≡ merit_in body q → ⊥
 
-pub merit_yes : (h : Head) (body : List ℕ) → first_no (merit_questions h body) ≡ 0 → MeritYes h.n body
+pub merit_yes : (h : Head) (body : List ℕ) → first_no (merit_questions h body) ≡ 0 → MeritYes h.candidates body
 merit_yes h body e =
     let a = yes 10 _ _ e in
     let b = yes 11 _ _ a.1 in
-    let each : (p : ℕ) → p < merit_count body → within 1 h.n (merit_in body p) ≡ true =
-    all_at (merit_count body) (λ p. within 1 h.n (merit_in body p)) a.0 in
+    let each : (p : ℕ) → p < merit_count body → within 1 h.candidates (merit_in body p) ≡ true =
+    all_at (merit_count body) (λ p. within 1 h.candidates (merit_in body p)) a.0 in
     record {
-      merit_from = λ p l. within_from 1 h.n (merit_in body p) (each p l);
-      merit_to = λ p l. within_to 1 h.n (merit_in body p) (each p l);
+      merit_from = λ p l. within_from 1 h.candidates (merit_in body p) (each p l);
+      merit_to = λ p l. within_to 1 h.candidates (merit_in body p) (each p l);
       merit_differs = λ p q l m e.
           eqb-false (merit_in body p) (merit_in body q) (apart_at (merit_count body) (λ p q. eqb (merit_in body p) (merit_in body q)) b.0 p q l m) e;
     }
@@ -228,7 +227,7 @@ head_long h kind len e a = omega (arith, length_head h len (rw e at a))
 pub institute_body : (h : Head) (body : List ℕ) → h.types ≤ 8 → institute_allowed h (length body) ≡ true → InstituteBody h body
 institute_body h body l e =
     let fits = length_institute h (length body) e in
-    record { types_most = l; steps_most = fits.most; whole = fits.by_width }
+    record { types_most = l; steps_most = fits.most; long = fits.by_width }
 
 pub institute_long : (k : Head) (kind : ℕ) (body : List ℕ) → InRange k → kind ≡ 2 → length_allowed k kind (length body) ≡ true → InstituteBody k body
 institute_long k kind body y e a = institute_body k body y.types_most (rw e at a)
@@ -238,7 +237,7 @@ candidate_long k kind body e a = (length_candidate k (length body) (rw e at a)).
 
 -- the steps of an institute of which 17 and 18, where they are asked, are answered yes
 pub steps_lawful : (h : Head) (body : List ℕ) → InstituteBody h body → (own_steps h ≡ true → ListYes h body) → LawfulSteps h body
-steps_lawful h body long listed = record { body_of = long; coded = coded (own_steps h) refl; handed_on = handed_on (own_steps h) refl }
+steps_lawful h body long listed = record { long = long; coded = coded (own_steps h) refl; handed_on = handed_on (own_steps h) refl }
   where
     coded : (own : Bool) → own_steps h ≡ own → (k : ℕ) → k < step_count h body → step_code h body k < 5
     coded true e k l = omega (arith, (listed e).code_known k l)

@@ -10,8 +10,7 @@ use borrow.Author.Tests.{eqb-true, eq-eqb, ne_eqb}
 use lib.Dec.{eqb}
 use lib.ListN.{length, get_or, replicate, length-append, length-replicate, get_or-replicate, get_or-append}
 use lib.Seq.{get_or-append-add}
-use Rattle.questions.specs.declared.head.Head.{Head}
-use Rattle.questions.specs.Records.{head_of, due_after, next_at, start_of, institute_record, candidate_record, merit_record, behind_head, record_count}
+use Rattle.questions.specs.Records.{Head, head_of, due_after, next_at, start_of, institute_record, candidate_record, merit_record, behind_head, record_count}
 use Rattle.questions.specs.Questions.{first_no, questions_at}
 use Rattle.questions.specs.Refusal.{Verdict, passes, refused, ending, verdict_from, verdict}
 
@@ -66,32 +65,32 @@ module _ (file : List ℕ) where
 
 -- where the kinds that are due stand
 module _ (h : Head) where
-  due_institute : (j : ℕ) → j < h.m → get_or (due_after h) j 0 ≡ 2
+  due_institute : (j : ℕ) → j < h.institutes → get_or (due_after h) j 0 ≡ 2
   due_institute j l =
-      get_or-append (replicate h.m 2) _ 0 j (rw length-replicate l) ∙ get_or-replicate h.m j 2 0 l
+      get_or-append (replicate h.institutes 2) _ 0 j (rw length-replicate l) ∙ get_or-replicate h.institutes j 2 0 l
 
-  pub due_candidate : (i : ℕ) → i < h.n → get_or (due_after h) (h.m + i) 0 ≡ 3
+  pub due_candidate : (i : ℕ) → i < h.candidates → get_or (due_after h) (h.institutes + i) 0 ≡ 3
   due_candidate i l =
-      ap (λ (k : ℕ). get_or (due_after h) (k + i) 0) (sym (length-replicate h.m 2))
-      ∙ (get_or-append-add (replicate h.m 2) _ i 0
-      ∙ (get_or-append (replicate h.n 3) _ 0 i (rw length-replicate l) ∙ get_or-replicate h.n i 3 0 l))
+      ap (λ (k : ℕ). get_or (due_after h) (k + i) 0) (sym (length-replicate h.institutes 2))
+      ∙ (get_or-append-add (replicate h.institutes 2) _ i 0
+      ∙ (get_or-append (replicate h.candidates 3) _ 0 i (rw length-replicate l) ∙ get_or-replicate h.candidates i 3 0 l))
 
-  due_merit : (j : ℕ) → j < h.m → get_or (due_after h) (h.m + (h.n + j)) 0 ≡ 4
+  due_merit : (j : ℕ) → j < h.institutes → get_or (due_after h) (h.institutes + (h.candidates + j)) 0 ≡ 4
   due_merit j l =
-      ap (λ (k : ℕ). get_or (due_after h) (k + (h.n + j)) 0) (sym (length-replicate h.m 2))
-      ∙ (get_or-append-add (replicate h.m 2) _ (h.n + j) 0
-      ∙ (ap (λ (k : ℕ). get_or (replicate h.n 3 ++ replicate h.m 4) (k + j) 0) (sym (length-replicate h.n 3))
-      ∙ (get_or-append-add (replicate h.n 3) _ j 0 ∙ get_or-replicate h.m j 4 0 l)))
+      ap (λ (k : ℕ). get_or (due_after h) (k + (h.candidates + j)) 0) (sym (length-replicate h.institutes 2))
+      ∙ (get_or-append-add (replicate h.institutes 2) _ (h.candidates + j) 0
+      ∙ (ap (λ (k : ℕ). get_or (replicate h.candidates 3 ++ replicate h.institutes 4) (k + j) 0) (sym (length-replicate h.candidates 3))
+      ∙ (get_or-append-add (replicate h.candidates 3) _ j 0 ∙ get_or-replicate h.institutes j 4 0 l)))
 
-  length_due : length (due_after h) ≡ h.m + (h.n + h.m)
+  length_due : length (due_after h) ≡ h.institutes + (h.candidates + h.institutes)
   length_due = simp (length-append, length-replicate)
 
 -- every question of every record was answered yes
 pub record Passed (file : List ℕ) : Type 0 where
   pub head_yes : first_no (questions_at file (head_of file) 1 0) ≡ 0
-  pub institute_yes : (j : ℕ) → j < (head_of file).m → first_no (questions_at file (head_of file) 2 (start_of file (institute_record (head_of file) j))) ≡ 0
-  pub candidate_yes : (i : ℕ) → i < (head_of file).n → first_no (questions_at file (head_of file) 3 (start_of file (candidate_record (head_of file) i))) ≡ 0
-  pub merit_yes : (j : ℕ) → j < (head_of file).m → first_no (questions_at file (head_of file) 4 (start_of file (merit_record (head_of file) j))) ≡ 0
+  pub institute_yes : (j : ℕ) → j < (head_of file).institutes → first_no (questions_at file (head_of file) 2 (start_of file (institute_record (head_of file) j))) ≡ 0
+  pub candidate_yes : (i : ℕ) → i < (head_of file).candidates → first_no (questions_at file (head_of file) 3 (start_of file (candidate_record (head_of file) i))) ≡ 0
+  pub merit_yes : (j : ℕ) → j < (head_of file).institutes → first_no (questions_at file (head_of file) 4 (start_of file (merit_record (head_of file) j))) ≡ 0
   -- the record with a number behind the head, from 0
   pub record_yes : (k : ℕ) → k < behind_head (head_of file) → first_no (questions_at file (head_of file) (get_or (due_after (head_of file)) k 0) (start_of file (1 + k))) ≡ 0
   pub ends : start_of file (record_count (head_of file)) ≡ length file
@@ -105,8 +104,8 @@ passed file e =
     record {
       head_yes = both.0;
       institute_yes = λ j l. rw (due_institute h j l) at (at j (omega (arith, length_due h)));
-      candidate_yes = λ i l. rw (due_candidate h i l) at (at (h.m + i) (omega (arith, length_due h)));
-      merit_yes = λ j l. rw (due_merit h j l) at (at (h.m + (h.n + j)) (omega (arith, length_due h)));
+      candidate_yes = λ i l. rw (due_candidate h i l) at (at (h.institutes + i) (omega (arith, length_due h)));
+      merit_yes = λ j l. rw (due_merit h j l) at (at (h.institutes + (h.candidates + j)) (omega (arith, length_due h)));
       record_yes = λ k l. at k (omega (arith, length_due h));
       ends = rw (length_due h) at (ended file h (due_after h) 1 both.1);
     }

@@ -9,8 +9,7 @@ use native.Mathlib.Numerals.{add-one}
 use borrow.Author.Tests.{eq-eqb, ne_eqb}
 use lib.Dec.{eqb}
 use lib.ListN.{length, get_or}
-use Rattle.questions.specs.declared.head.Head.{Head}
-use Rattle.questions.specs.Records.{own_steps}
+use Rattle.questions.specs.Records.{Head, own_steps}
 use Rattle.lists.specs.Numbers.{word}
 use Rattle.questions.specs.Steps.{step_lead, step_width, step_count, positions_in, reserved_in, step_code, receiver_in}
 use Rattle.lists.specs.Numbers.{within}
@@ -50,8 +49,8 @@ pub record StepInside (k w : ℕ) (body : List ℕ) : Type 0 where
 -- so do the steps of an institute's body, by the width that code has found
 pub step_inside : (h : Head) (body : List ℕ) → InstituteBody h body → (k : ℕ) {w : ℕ} → w ≡ step_width h → k < step_count h body → StepInside k w body
 step_inside h body b k {w} e l = record {
-  ends = rw e (omega (arith, b.whole, suc-mul k (step_width h), mul-le-mul_right (step_width h) below));
-  short = omega (arith, b.whole, mul-le-mul b.steps_most (width_most h b.types_most));
+  ends = rw e (omega (arith, b.long, suc-mul k (step_width h), mul-le-mul_right (step_width h) below));
+  short = omega (arith, b.long, mul-le-mul b.steps_most (width_most h b.types_most));
 }
   where
     below : suc k ≤ step_count h body

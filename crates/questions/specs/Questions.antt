@@ -1,12 +1,11 @@
 -- The questions about one record (document 01, "The questions, in order": 1 to 12; document 02, Points 6 and 7). A kind is one of document 01's, 1 to
 -- 4, in both forms and under each policy.
 use Rattle.std.specs.Prelude.{ℕ, suc, ◌+◌, ◌*◌, ◌-◌, ◌/◌, ◌%◌, ◌^◌, Bool, cond, ◌&&◌, ◌||◌, List, [], ◌∷◌, ◌++◌, leb, eqb, length, get_or, drop}
-use Rattle.questions.specs.declared.head.Head.{Head}
 use Rattle.questions.specs.declared.form.Form.{Form}
 use Rattle.questions.specs.declared.form.Form.TheVariants.{Narrow, Wide}
 use Rattle.questions.specs.Form.{institutes_most, entry_width}
 use Rattle.lists.specs.Lists.{all_of, apart, sum_of}
-use Rattle.questions.specs.Records.{head_in, body_at, kind_at, length_at, own_steps, kind_due}
+use Rattle.questions.specs.Records.{Head, head_in, body_at, kind_at, length_at, own_steps, kind_due}
 use Rattle.lists.specs.Numbers.{word}
 use Rattle.questions.specs.Steps.{step_width, step_count, positions_in, reserved_in, step_code, receiver_in}
 use Rattle.lists.specs.Numbers.{within}
@@ -41,7 +40,7 @@ abbrev pub length_allowed : Head → ℕ → ℕ → Bool
 length_allowed h kind len =
     cond (eqb kind 1) (eqb len 8)
     (cond (eqb kind 2) (institute_allowed h len)
-    (cond (eqb kind 3) (row_allowed h.form len) (leb len (2 * h.n) && even len)))
+    (cond (eqb kind 3) (row_allowed h.form len) (leb len (2 * h.candidates) && even len)))
 
 -- 1 to 4: what is asked of every record, due with a kind at a byte
 abbrev pub lead_questions : List ℕ → Head → ℕ → ℕ → List Question
@@ -56,7 +55,7 @@ lead_questions file h kind start =
 abbrev pub head_questions : Form → List ℕ → List Question
 head_questions form body =
     let h = head_in form body in
-    asked 5 (within 1 512 h.n && (within 1 (institutes_most form) h.m && (leb h.types 8 && leb h.policy 2))) ∷ []
+    asked 5 (within 1 512 h.candidates && (within 1 (institutes_most form) h.institutes && (leb h.types 8 && leb h.policy 2))) ∷ []
 
 -- 17 and 18: each step's category is one of the five, and its vacancies go to nobody or to a later step of the list
 abbrev pub list_questions : Head → List ℕ → List Question
@@ -111,7 +110,7 @@ abbrev pub candidate_questions : Head → List ℕ → List Question
 candidate_questions h body =
     let own : ℕ = get_or body 0 0 in
     let marks : ℕ = get_or body 1 0 in
-    asked 8 (leb own 4 && leb (suc marks) (2 ^ h.types)) ∷ row_questions h.form h.m own (row_bytes body)
+    asked 8 (leb own 4 && leb (suc marks) (2 ^ h.types)) ∷ row_questions h.form h.institutes own (row_bytes body)
 
 -- the length of a merit list, by its body, and the candidate number at a place, from 0
 abbrev pub merit_count : List ℕ → ℕ
@@ -123,7 +122,7 @@ merit_in body p = word body (2 * p)
 -- 11: each number is a candidate's; 12: they are all different
 abbrev pub merit_questions : Head → List ℕ → List Question
 merit_questions h body =
-    asked 11 (all_of (merit_count body) (λ p. within 1 h.n (merit_in body p)))
+    asked 11 (all_of (merit_count body) (λ p. within 1 h.candidates (merit_in body p)))
     ∷ asked 12 (apart (merit_count body) (λ p q. eqb (merit_in body p) (merit_in body q)))
     ∷ []
 

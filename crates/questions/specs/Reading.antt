@@ -1,14 +1,13 @@
 -- The round that a file means (document 01, "Round file"; document 02, Points 6 and 7), and the steps of each policy ("One institute chooses"). What a
 -- lawful file means differs between the two forms in how an entry is read, and in nothing else.
 use Rattle.std.specs.Prelude.{ℕ, cond, List, [], ◌∷◌, ◌++◌, eqb, get_or, replicate}
-use Rattle.questions.specs.declared.head.Head.{Head}
 use Rattle.round.specs.declared.entry.Category.TheVariants.{Open}
 use Rattle.round.specs.declared.entry.Entry.{Entry}
 use Rattle.questions.specs.declared.form.Form.{Form}
 use Rattle.round.specs.Category.{category_of}
 use Rattle.lists.specs.Lists.{tabulate}
 use Rattle.round.specs.Round.{StepRule, Institute, Candidate, Round}
-use Rattle.questions.specs.Records.{head_of, body_of, own_steps, institute_record, candidate_record, merit_record}
+use Rattle.questions.specs.Records.{Head, head_of, body_of, own_steps, institute_record, candidate_record, merit_record}
 use Rattle.questions.specs.Steps.{step_count, positions_in, reserved_in, step_code, receiver_in}
 use Rattle.questions.specs.Questions.{entry_count, institute_in, code_in, row_bytes, merit_count, merit_in}
 
@@ -51,7 +50,7 @@ unfoldable pub round_of : List ℕ → Round
 round_of file =
     let h : Head = head_of file in
     record {
-      candidates = tabulate h.n (λ i. candidate_in h.form (body_of file (candidate_record h i)));
-      institutes = tabulate h.m (λ j. institute_from h (body_of file (institute_record h j)) (body_of file (merit_record h j)));
+      candidates = tabulate h.candidates (λ i. candidate_in h.form (body_of file (candidate_record h i)));
+      institutes = tabulate h.institutes (λ j. institute_from h (body_of file (institute_record h j)) (body_of file (merit_record h j)));
       steps_listed = own_steps h;
     }

@@ -1,7 +1,6 @@
 -- The records of a file (document 01, "Round file"; document 02, Points 6 and 7): where each starts, its body, the form of the file, the numbers of
 -- the head and the kinds that they make due.
 use Rattle.std.specs.Prelude.{ℕ, zero, suc, ◌+◌, Bool, cond, ◌&&◌, List, ◌++◌, leb, eqb, length, take, drop, replicate}
-use Rattle.questions.specs.declared.head.Head.{Head}
 use Rattle.questions.specs.declared.form.Form.{Form}
 use Rattle.questions.specs.declared.form.Form.TheVariants.{Narrow, Wide}
 use Rattle.questions.specs.Form.{form_kind}
@@ -41,8 +40,15 @@ unfoldable pub form_of : List ℕ → Form
 form_of file = cond (leb 4 (length file)) (cond (eqb (kind_at file 0) 5) Wide Narrow) Narrow
 
 -- the head: the form, candidates n, institutes m, horizontal types L, policy
+pub record Head : Type 0 where
+  pub form : Form
+  pub candidates : ℕ
+  pub institutes : ℕ
+  pub types : ℕ
+  pub policy : ℕ
+
 abbrev pub head_in : Form → List ℕ → Head
-head_in form body = record { form = form; n = word body 0; m = word body 2; types = word body 4; policy = word body 6 }
+head_in form body = record { form = form; candidates = word body 0; institutes = word body 2; types = word body 4; policy = word body 6 }
 
 abbrev pub head_of : List ℕ → Head
 head_of file = head_in (form_of file) (body_at file 0)
@@ -58,21 +64,21 @@ kind_due h kind = cond (eqb kind 2 && own_steps h) 7 (form_kind h.form kind)
 
 -- the kinds of the records that are due after the head, by document 01's numbers: m institutes, n candidates, m merit lists
 abbrev pub due_after : Head → List ℕ
-due_after h = replicate h.m 2 ++ (replicate h.n 3 ++ replicate h.m 4)
+due_after h = replicate h.institutes 2 ++ (replicate h.candidates 3 ++ replicate h.institutes 4)
 
 -- the number, from 0, of the record of an institute, a candidate and a merit list, each from 0
 abbrev pub institute_record : Head → ℕ → ℕ
 institute_record h j = 1 + j
 
 abbrev pub candidate_record : Head → ℕ → ℕ
-candidate_record h i = 1 + (h.m + i)
+candidate_record h i = 1 + (h.institutes + i)
 
 abbrev pub merit_record : Head → ℕ → ℕ
-merit_record h j = 1 + (h.m + (h.n + j))
+merit_record h j = 1 + (h.institutes + (h.candidates + j))
 
 -- how many records stand behind a head, and how many a file with it has
 abbrev pub behind_head : Head → ℕ
-behind_head h = h.m + (h.n + h.m)
+behind_head h = h.institutes + (h.candidates + h.institutes)
 
 abbrev pub record_count : Head → ℕ
 record_count h = 1 + behind_head h

@@ -1,8 +1,7 @@
 -- Whether a file is refused, by which number and at which byte (document 01, "The questions, in order": 1 to 13; document 02, Point 7: 17
 -- and 18).
 use Rattle.std.specs.Prelude.{ℕ, cond, List, [], ◌∷◌, eqb, length}
-use Rattle.questions.specs.declared.head.Head.{Head}
-use Rattle.questions.specs.Records.{head_of, due_after, next_at}
+use Rattle.questions.specs.Records.{Head, head_of, due_after, next_at}
 use Rattle.questions.specs.Questions.{questions_at, first_no}
 
 -- what the questions come to: each was answered yes, or the number of the first that was not, with its byte

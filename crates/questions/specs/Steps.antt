@@ -1,8 +1,7 @@
 -- The steps in an institute's body (document 01, "Round file"; document 02, Point 7): under policies 0 and 1 those of codes 0 to 4, each with its
 -- positions; under policy 2 the steps that the institute lists, each led by the byte of its category and that of the step that gets its vacancies.
 use Rattle.std.specs.Prelude.{ℕ, suc, ◌+◌, ◌*◌, ◌/◌, cond, ◌&&◌, List, eqb, length, get_or}
-use Rattle.questions.specs.declared.head.Head.{Head}
-use Rattle.questions.specs.Records.{own_steps}
+use Rattle.questions.specs.Records.{Head, own_steps}
 use Rattle.lists.specs.Numbers.{word}
 
 -- the bytes that lead a step: category and receiver under policy 2, else none

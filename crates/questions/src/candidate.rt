@@ -1,7 +1,7 @@
 // A candidate's body: code, marks and row, and questions 8 to 10.
 ghost use Rattle.std.specs.Prelude.{◌≡◌, ◌^◌, ◌≤◌, length};
 ghost use Rattle.questions.specs.Questions.{first_no, candidate_questions};
-ghost use Rattle.questions.specs.Read.{InRange, marks_in};
+ghost use Rattle.questions.specs.Read.{as_head, InRange, marks_in};
 
 use crate::head::Head;
 use crate::row::ask_row;
@@ -30,12 +30,12 @@ fn marks_lawful(body: &[u8], types: usize) -> bool
 // The number of the first question about a candidate's body whose answer is no, 0 where each is yes.
 pub fn ask_candidate(body: &[u8], h: Head) -> usize
     requires in_bounds { 2 ≤ length body.now }
-    requires in_range { InRange h }
-    ensures { result ≡ first_no (candidate_questions h body.now) }
+    requires in_range { InRange (as_head h) }
+    ensures { result ≡ first_no (candidate_questions (as_head h) body.now) }
 {
     if !marks_lawful(body, h.types) {
         return 8;
     }
     let form = h.form;
-    ask_row(&body[2..], form, h.m, body[0])
+    ask_row(&body[2..], form, h.institutes, body[0])
 }

@@ -2,6 +2,7 @@
 ghost use Rattle.std.specs.Prelude.{◌≡◌, ◌≤◌, length};
 ghost use Rattle.questions.specs.Records.{head_in, own_steps, kind_due};
 ghost use Rattle.questions.specs.Questions.{first_no, head_questions};
+ghost use Rattle.questions.specs.Read.{as_head};
 
 use crate::form::{Form, form_kind, institutes_most};
 use lists::word::{within, word};
@@ -10,8 +11,8 @@ use lists::word::{within, word};
 #[derive(Clone, Copy)]
 pub struct Head {
     pub form: Form,
-    pub n: usize,
-    pub m: usize,
+    pub candidates: usize,
+    pub institutes: usize,
     pub types: usize,
     pub policy: usize,
 }
@@ -19,16 +20,16 @@ pub struct Head {
 // The head, by its body and the form of the file.
 pub fn head_in(body: &[u8], form: Form) -> Head
     requires { 8 ≤ length body.now }
-    ensures { result ≡ head_in form body.now }
+    ensures { as_head result ≡ head_in form body.now }
 {
-    let n = word(body, 0);
-    let m = word(body, 2);
+    let candidates = word(body, 0);
+    let institutes = word(body, 2);
     let types = word(body, 4);
     let policy = word(body, 6);
     Head {
         form,
-        n,
-        m,
+        candidates,
+        institutes,
         types,
         policy,
     }
@@ -36,14 +37,14 @@ pub fn head_in(body: &[u8], form: Form) -> Head
 
 // Whether each institute lists its own steps.
 pub fn own_steps(h: Head) -> bool
-    ensures { result ≡ own_steps h }
+    ensures { result ≡ own_steps (as_head h) }
 {
     h.policy == 2
 }
 
 // The kind that stands in the file for one of the kinds 1 to 4.
 pub fn kind_due(h: Head, kind: usize) -> usize
-    ensures { result ≡ kind_due h kind }
+    ensures { result ≡ kind_due (as_head h) kind }
 {
     if kind == 2 && own_steps(h) {
         return 7;

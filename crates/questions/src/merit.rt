@@ -3,7 +3,7 @@ ghost use Rattle.std.specs.Prelude.{◌≡◌, ℕ, ◌<◌, eqb};
 ghost use Rattle.lists.specs.Lists.{all_of, apart};
 ghost use Rattle.lists.specs.Numbers as numbers;
 ghost use Rattle.questions.specs.Questions.{first_no, merit_questions, merit_count, merit_in};
-ghost use Rattle.questions.specs.Read.{InRange, none_seen};
+ghost use Rattle.questions.specs.Read.{as_head, InRange, none_seen};
 
 use crate::head::Head;
 use lists::word::{within, word};
@@ -55,10 +55,10 @@ fn all_unseen(body: &[u8], seen: &mut [u8]) -> bool
 
 // The number of the first question about a merit list's body whose answer is no, 0 where each is yes.
 pub fn ask_merit(body: &[u8], h: Head) -> usize
-    requires { InRange h }
-    ensures { result ≡ first_no (merit_questions h body.now) }
+    requires { InRange (as_head h) }
+    ensures { result ≡ first_no (merit_questions (as_head h) body.now) }
 {
-    if !all_listed(body, h.n) {
+    if !all_listed(body, h.candidates) {
         return 11;
     }
     let mut seen = nobody_seen();

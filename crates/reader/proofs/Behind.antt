@@ -9,9 +9,8 @@ use borrow.Author.Tests.{leb-true, leb-false, le-leb, lt-leb, eqb-true, eqb-fals
 use lib.Dec.{leb, eqb}
 use lib.ListN.{length, get_or, take, drop, replicate, length-append}
 use lib.Seq.{get_or-append-add, drop-append-add, take-append_seam}
-use Rattle.questions.specs.declared.head.Head.{Head}
 use Rattle.lists.specs.Lists.{tabulate_from, joined}
-use Rattle.questions.specs.Records.{kind_at, length_at, body_at, next_at, start_of, body_of, kind_due}
+use Rattle.questions.specs.Records.{Head, kind_at, length_at, body_at, next_at, start_of, body_of, kind_due}
 use Rattle.lists.specs.Numbers.{word}
 use Rattle.questions.specs.Questions.{Question, asked, first_no, length_allowed, kind_questions, questions_at}
 use Rattle.questions.specs.Refusal.{Verdict, passes, refused, verdict_from}

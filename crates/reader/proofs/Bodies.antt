@@ -7,7 +7,7 @@ use native.Mathlib.Omega.{arith}
 use mir.Syntax.{w8}
 use mir.Val.{Fits}
 use lib.ListN.{length, get_or, take, drop}
-use Rattle.questions.specs.declared.head.Head.{Head}
+use Rattle.questions.specs.declared.head.Head.{Head as CodeHead}
 use Rattle.questions.specs.declared.form.Form.{Form}
 use Rattle.reader.specs.declared.opened.Opened.{Opened}
 use Rattle.round.specs.declared.entry.Category.{Category}
@@ -15,7 +15,7 @@ use Rattle.round.specs.declared.entry.Entry.{Entry}
 use Rattle.round.specs.Category.{category_of}
 use Rattle.questions.specs.Form.{institutes_most}
 use Rattle.lists.specs.Lists.{tabulate}
-use Rattle.questions.specs.Records.{form_of, head_of, length_at, body_at, start_of, body_of, own_steps, due_after, candidate_record, behind_head}
+use Rattle.questions.specs.Records.{Head, form_of, head_of, length_at, body_at, start_of, body_of, own_steps, due_after, candidate_record, behind_head}
 use Rattle.questions.specs.Steps.{step_count, step_code}
 use Rattle.questions.specs.Questions.{entry_count, merit_count, merit_in}
 use Rattle.questions.specs.Refusal.{passes, verdict}
@@ -23,7 +23,7 @@ use Rattle.round.specs.Round.{StepRule, Candidate, Institute, Round}
 use Rattle.questions.specs.Reading.{steps_in, entry_in, row_in, candidate_in, institute_from, round_of}
 use Rattle.round.specs.Places.{candidate_at, institute_at, entry_at, merit_at, step_at, step_numbers, no_entry, no_step}
 use Rattle.round.specs.Sound.{Sound}
-use Rattle.questions.specs.Read.{InRange}
+use Rattle.questions.specs.Read.{as_head, InRange}
 use Rattle.reader.specs.declared.reader.Reading.{Reading}
 use Rattle.reader.specs.declared.reader.Reading.TheVariants.{Read}
 use Rattle.reader.specs.Outcome.{verdict_of, Starts, RoundRead}
@@ -60,21 +60,21 @@ module _ {file starts : List ℕ} {k : ℕ} (accepted : verdict file ≡ passes)
         ap (λ (n : ℕ). take n (drop (at + 4) file)) same ∙ ap (body_at file) starts_there
 
 module _ {file : List ℕ} {o : Opened} {row starts : List ℕ} (hand : OpenedFile file o row starts) where
-  candidates_same : o.head.n ≡ (head_of file).n
-  candidates_same = ap (λ (h : Head). h.n) hand.head
+  candidates_same : o.head.candidates ≡ (head_of file).candidates
+  candidates_same = ap (λ (h : Head). h.candidates) hand.head
 
-  institutes_same : o.head.m ≡ (head_of file).m
-  institutes_same = ap (λ (h : Head). h.m) hand.head
+  institutes_same : o.head.institutes ≡ (head_of file).institutes
+  institutes_same = ap (λ (h : Head). h.institutes) hand.head
 
   form_same : o.head.form ≡ form_of file
   form_same = ap (λ (h : Head). h.form) hand.head
 
   -- as many candidates and institutes as the file
-  pub opened_candidates : length (opened_round file o row).candidates ≡ o.head.n
+  pub opened_candidates : length (opened_round file o row).candidates ≡ o.head.candidates
   unfolding opened_round
   opened_candidates = changed.candidates_kept (form_of file) row (round_of file) o.change ∙ length_candidates file ∙ sym candidates_same
 
-  pub opened_institutes : length (opened_round file o row).institutes ≡ o.head.m
+  pub opened_institutes : length (opened_round file o row).institutes ≡ o.head.institutes
   unfolding opened_round
   opened_institutes = changed.institutes_kept (form_of file) row (round_of file) o.change ∙ length_institutes file ∙ sym institutes_same
 
@@ -84,32 +84,32 @@ module _ {file : List ℕ} {o : Opened} {row starts : List ℕ} (hand : OpenedFi
       rw (ap (λ (h : Head). h.types) hand.head)
       (changed.sound_changed (form_of file) row (round_of file) o.change hand.change (sound file hand.accepted))
 
-  pub opened_listed : (opened_round file o row).steps_listed ≡ own_steps o.head
+  pub opened_listed : (opened_round file o row).steps_listed ≡ own_steps (as_head o.head)
   unfolding opened_round
   opened_listed =
       changed.listed_kept (form_of file) row (round_of file) o.change ∙ listed_round file ∙ sym (ap (λ (h : Head). own_steps h) hand.head)
 
-  pub numbers_few : (o.head.n ≤ 512) × (o.head.m ≤ 1000)
+  pub numbers_few : (o.head.candidates ≤ 512) × (o.head.institutes ≤ 1000)
   numbers_few = (omega (arith, opened_candidates, opened_sound.candidates_most), omega (arith, opened_institutes, opened_sound.institutes_most_is))
 
   -- no more institutes than a file of the form may have
-  pub institutes_fit : o.head.m ≤ institutes_most o.head.form
+  pub institutes_fit : o.head.institutes ≤ institutes_most o.head.form
   institutes_fit =
-      let range : InRange o.head = rw hand.head (head_fits file (passed file hand.accepted)) in
+      let range : InRange (as_head o.head) = rw hand.head (head_fits file (passed file hand.accepted)) in
       range.institutes_most_is
 
   pub rises_at : Rises o.change
   rises_at = changed.rises (form_of file) row (round_of file) o.change hand.change
 
   -- the records of a candidate, an institute and a merit list
-  module _ {i : ℕ} (inside : i < o.head.n) where
-    pub candidate_below : o.head.m + i < behind_head (head_of file)
+  module _ {i : ℕ} (inside : i < o.head.candidates) where
+    pub candidate_below : o.head.institutes + i < behind_head (head_of file)
     candidate_below = omega (arith, candidates_same, institutes_same)
 
-    below : i < (head_of file).n
+    below : i < (head_of file).candidates
     below = omega (arith, candidates_same)
 
-    module _ {body : List ℕ} (read : body ≡ body_of file (1 + (o.head.m + i))) where
+    module _ {body : List ℕ} (read : body ≡ body_of file (1 + (o.head.institutes + i))) where
       is_body : body ≡ body_of file (candidate_record (head_of file) i)
       is_body = read ∙ ap (λ (m : ℕ). body_of file (1 + (m + i))) institutes_same
 
@@ -138,18 +138,18 @@ module _ {file : List ℕ} {o : Opened} {row starts : List ℕ} (hand : OpenedFi
     row_instead e f =
         ap (λ (form : Form). row_in form row) form_same ∙ sym (changed.row_changed (form_of file) row (round_of file) o.change i hand.change (sym e ∙ f))
 
-  module _ {j : ℕ} (inside : j < o.head.m) where
+  module _ {j : ℕ} (inside : j < o.head.institutes) where
     pub institute_below : j < behind_head (head_of file)
     institute_below = omega (arith, institutes_same)
 
-    pub merit_below : o.head.m + (o.head.n + j) < behind_head (head_of file)
+    pub merit_below : o.head.institutes + (o.head.candidates + j) < behind_head (head_of file)
     merit_below = omega (arith, candidates_same, institutes_same)
 
-    listed : j < (head_of file).m
+    listed : j < (head_of file).institutes
     listed = omega (arith, institutes_same)
 
     -- a merit list's body
-    module _ {body : List ℕ} (read : body ≡ body_of file (1 + (o.head.m + (o.head.n + j)))) where
+    module _ {body : List ℕ} (read : body ≡ body_of file (1 + (o.head.institutes + (o.head.candidates + j)))) where
       is_list : tabulate (merit_count body) (merit_in body) ≡ (institute_at (round_of file) j).merit
       unfolding institute_from
       is_list =
@@ -197,7 +197,7 @@ module _ {file : List ℕ} {o : Opened} {row starts : List ℕ} (hand : OpenedFi
         }
 
     -- the numbers of the steps, by the flag that code has found: those of the body where institutes list their own, else six
-    module _ {b : Bool} (flag : b ≡ own_steps o.head) where
+    module _ {b : Bool} (flag : b ≡ own_steps (as_head o.head)) where
       pub six_numbers : b ≡ false → 6 ≡ step_numbers (opened_round file o row) j
       six_numbers off = rw (opened_listed ∙ sym flag ∙ off)
 
@@ -209,29 +209,29 @@ module _ {file : List ℕ} {o : Opened} {row starts : List ℕ} (hand : OpenedFi
           → c ≡ (step_at (institute_at (opened_round file o row) j) (step - 1)).category
       six_category {c} {code} {step} off e d l m =
           e ∙ ap category_of d
-          ∙ sym (numbered_category o.head (body_of file (1 + j)) (sym flag ∙ off) (step - 1) (omega (arith, six_numbers off)))
+          ∙ sym (numbered_category (as_head o.head) (body_of file (1 + j)) (sym flag ∙ off) (step - 1) (omega (arith, six_numbers off)))
           ∙ ap (λ (l : List StepRule). (get_or l (step - 1) no_step).category) (institute_read refl).steps_of
 
       module _ {body : List ℕ} (read : StepsRead (opened_round file o row) o.head j body) (own : b ≡ true) where
         listed_numbers : step_numbers (opened_round file o row) j ≡ length (institute_at (opened_round file o row) j).steps
         listed_numbers = rw (opened_listed ∙ sym flag ∙ own)
 
-        pub own_numbers : {count : ℕ} → count ≡ step_count o.head body → count ≡ step_numbers (opened_round file o row) j
-        own_numbers e = e ∙ sym (listed_length o.head body (sym flag ∙ own)) ∙ ap length read.steps_of ∙ sym listed_numbers
+        pub own_numbers : {count : ℕ} → count ≡ step_count (as_head o.head) body → count ≡ step_numbers (opened_round file o row) j
+        own_numbers e = e ∙ sym (listed_length (as_head o.head) body (sym flag ∙ own)) ∙ ap length read.steps_of ∙ sym listed_numbers
 
-        pub own_inside : {step : ℕ} → 1 ≤ step → step ≤ step_numbers (opened_round file o row) j → step - 1 < step_count o.head body
-        own_inside l m = omega (arith, own_numbers {count = step_count o.head body} refl)
+        pub own_inside : {step : ℕ} → 1 ≤ step → step ≤ step_numbers (opened_round file o row) j → step - 1 < step_count (as_head o.head) body
+        own_inside l m = omega (arith, own_numbers {count = step_count (as_head o.head) body} refl)
 
         -- a listed step has the category of its code
-        pub own_category : {c : Category} {code step : ℕ} → c ≡ category_of code → code ≡ step_code o.head body (step - 1) → 1 ≤ step
+        pub own_category : {c : Category} {code step : ℕ} → c ≡ category_of code → code ≡ step_code (as_head o.head) body (step - 1) → 1 ≤ step
             → step ≤ step_numbers (opened_round file o row) j → c ≡ (step_at (institute_at (opened_round file o row) j) (step - 1)).category
         own_category {c} {code} {step} e d l m =
             e ∙ ap category_of d
-            ∙ sym (listed_category o.head body (step - 1) (own_inside l m))
+            ∙ sym (listed_category (as_head o.head) body (step - 1) (own_inside l m))
             ∙ ap (λ (l : List StepRule). (get_or l (step - 1) no_step).category) read.steps_of
 
 -- a file that was read is at hand, unchanged
-pub at_hand : {file starts : List ℕ} {got : Reading} → RoundRead file got starts → {h : Head} → got ≡ Read h → (row : List ℕ) → OpenedFile file (unchanged h) row starts
+pub at_hand : {file starts : List ℕ} {got : Reading} → RoundRead file got starts → {h : CodeHead} → got ≡ Read h → (row : List ℕ) → OpenedFile file (unchanged h) row starts
 at_hand asked {h} told row = record {
   accepted = sym asked.answer ∙ ap verdict_of told;
   head = asked.head h told;
@@ -240,7 +240,7 @@ at_hand asked {h} told row = record {
 }
 
 -- and its round is the file's
-pub own_round : (file : List ℕ) (h : Head) (row : List ℕ) → opened_round file (unchanged h) row ≡ round_of file
+pub own_round : (file : List ℕ) (h : CodeHead) (row : List ℕ) → opened_round file (unchanged h) row ≡ round_of file
 unfolding opened_round
 own_round file h row = refl
 

@@ -9,7 +9,7 @@ use borrow.Author.Tests.{leb-true, eqb-true, ne_eqb}
 use lib.Dec.{leb, eqb}
 use lib.ListN.{length, get_or, take, drop, replicate}
 use lib.Seq.{get_or-drop}
-use Rattle.questions.specs.declared.head.Head.{Head}
+use Rattle.questions.specs.Records.{Head}
 use Rattle.lists.specs.Lists.{tabulate, tabulate_from, joined}
 use Rattle.questions.specs.Steps.{step_width, receiver_in}
 use Rattle.lists.specs.Numbers.{within}

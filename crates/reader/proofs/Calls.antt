@@ -4,7 +4,7 @@ use mathlib.Core.Path.{◌≡◌, refl, sym, ap, ◌∙◌}
 use mathlib.Core.Bool.{Bool, true, false}
 use mathlib.Core.List.{List, ◌++◌}
 use lib.ListN.{length, drop, replicate, length-replicate}
-use Rattle.questions.specs.declared.head.Head.{Head}
+use Rattle.questions.specs.declared.head.Head.{Head as CodeHead}
 use Rattle.reader.specs.declared.opened.Opened.{Opened}
 use Rattle.reader.specs.declared.reader.Reading.{Reading}
 use Rattle.reader.specs.declared.reader.Reading.TheVariants.{Read, Refused}
@@ -41,7 +41,7 @@ module _ {file starts : List ℕ} {got : Reading} (read : RoundRead file got sta
   read_refused e told = rw (e ∙ ap refusal_in told) (sym read.answer ∙ ap verdict_of told)
 
   -- it is read, and its own round is at hand
-  module _ {h : Head} {o : Opened} (told : got ≡ Read h) (made : o ≡ unchanged h) (row : List ℕ) where
+  module _ {h : CodeHead} {o : Opened} (told : got ≡ Read h) (made : o ≡ unchanged h) (row : List ℕ) where
     pub own_hand : OpenedFile file o row starts
     own_hand = rw made (at_hand read told row)
 

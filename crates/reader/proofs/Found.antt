@@ -7,10 +7,9 @@ use native.Mathlib.Omega.{arith}
 use borrow.Author.Tests.{leb-true, eq-eqb, ne_eqb, le-leb, lt-leb, not-true, not-false}
 use lib.Dec.{leb, eqb}
 use lib.ListN.{length, take, drop}
-use Rattle.questions.specs.declared.head.Head.{Head}
 use Rattle.reader.specs.declared.records.Part.{Part}
 use Rattle.reader.specs.declared.records.Part.TheVariants.{Lawful, Refused}
-use Rattle.questions.specs.Records.{kind_at, length_at, body_at, next_at, kind_due}
+use Rattle.questions.specs.Records.{Head, kind_at, length_at, body_at, next_at, kind_due}
 use Rattle.questions.specs.Questions.{Question, first_no, lead_questions, kind_questions, questions_at, length_allowed}
 use Rattle.reader.specs.Parts.{part_by}
 use Rattle.questions.proofs.Passed.{yes}

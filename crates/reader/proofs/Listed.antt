@@ -11,10 +11,9 @@ use borrow.Author.Tests.{leb-true, le-leb}
 use lib.Dec.{leb, eqb}
 use lib.ListN.{length, get_or, take, drop, replicate, length-append, length-take, length-drop, length-replicate, get_or-append}
 use lib.Seq.{get_or-append-add, get_or-take, get_or-drop}
-use Rattle.questions.specs.declared.head.Head.{Head}
 use Rattle.round.specs.Category.{category_of}
 use Rattle.lists.specs.Lists.{tabulate, tabulate_from, joined, sum_of, all_of}
-use Rattle.questions.specs.Records.{own_steps}
+use Rattle.questions.specs.Records.{Head, own_steps}
 use Rattle.lists.specs.Numbers.{word}
 use Rattle.questions.specs.Steps.{step_lead, step_width, step_count, positions_in, reserved_in, step_code, receiver_in}
 use Rattle.questions.specs.Questions.{asked, first_no, institute_allowed, list_questions, institute_questions}
@@ -28,7 +27,7 @@ use Rattle.lists.proofs.Counting.{sum_of_ext, all_from}
 
 -- the head with another policy
 abbrev pub with_policy : ℕ → Head → Head
-with_policy p h = record { form = h.form; n = h.n; m = h.m; types = h.types; policy = p }
+with_policy p h = record { form = h.form; candidates = h.candidates; institutes = h.institutes; types = h.types; policy = p }
 
 -- what holds of the head with policy 0 and with policy 1
 pub by_policy : (P : Head → Type 0) (h : Head) → P (with_policy 0 h) → P (with_policy 1 h) → h.policy ≤ 1 → P h

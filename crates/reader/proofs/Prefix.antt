@@ -9,11 +9,10 @@ use borrow.Author.Tests.{leb-true, leb-false, le-leb, ne_eqb, eqb-true}
 use lib.Dec.{leb, eqb}
 use lib.ListN.{length, take, drop, replicate, length-take}
 use lib.Seq.{get_or-take, take-take, take_all}
-use Rattle.questions.specs.declared.head.Head.{Head}
 use Rattle.questions.specs.declared.form.Form.{Form}
 use Rattle.questions.specs.declared.form.Form.TheVariants.{Narrow, Wide}
 use Rattle.questions.specs.Form.{institutes_most, entry_width}
-use Rattle.questions.specs.Records.{form_of, head_in, head_of, due_after, kind_at, length_at, body_at, next_at, kind_due}
+use Rattle.questions.specs.Records.{Head, form_of, head_in, head_of, due_after, kind_at, length_at, body_at, next_at, kind_due}
 use Rattle.lists.specs.Numbers.{word}
 use Rattle.questions.specs.Steps.{step_width}
 use Rattle.questions.specs.Questions.{even, row_allowed, institute_allowed, first_no, questions_at, kind_questions, length_allowed}
@@ -36,18 +35,18 @@ most_least Wide = omega arith
 
 -- the greatest body length that the table allows for a kind
 abbrev most : Head → ℕ → ℕ
-most h kind = cond (eqb kind 1) 8 (cond (eqb kind 2) (12 * step_width h) (cond (eqb kind 3) (2 + 16 * entry_width h.form) (2 * h.n)))
+most h kind = cond (eqb kind 1) 8 (cond (eqb kind 2) (12 * step_width h) (cond (eqb kind 3) (2 + 16 * entry_width h.form) (2 * h.candidates)))
 
 allowed_most : (h : Head) (kind len : ℕ) → length_allowed h kind len ≡ true → len ≤ most h kind
 allowed_most h kind len = go (eqb kind 1) (eqb kind 2) (eqb kind 3)
   where
     go : (a b c : Bool)
-        → cond a (eqb len 8) (cond b (institute_allowed h len) (cond c (row_allowed h.form len) (leb len (2 * h.n) && even len))) ≡ true
-        → len ≤ cond a 8 (cond b (12 * step_width h) (cond c (2 + 16 * entry_width h.form) (2 * h.n)))
+        → cond a (eqb len 8) (cond b (institute_allowed h len) (cond c (row_allowed h.form len) (leb len (2 * h.candidates) && even len))) ≡ true
+        → len ≤ cond a 8 (cond b (12 * step_width h) (cond c (2 + 16 * entry_width h.form) (2 * h.candidates)))
     go true b c e = omega (arith, eqb-true len 8 e)
     go false true c e = let fits = answers.length_institute h len e in omega (arith, fits.by_width, mul-le-mul_right (step_width h) fits.most)
     go false false true e = (answers.length_candidate h len e).most
-    go false false false e = leb-true len (2 * h.n) (and_fst (leb len (2 * h.n)) (even len) e)
+    go false false false e = leb-true len (2 * h.candidates) (and_fst (leb len (2 * h.candidates)) (even len) e)
 
 -- the most bytes that records of these kinds take
 abbrev total : Head → List ℕ → ℕ
@@ -76,8 +75,8 @@ by_numbers form n m w few some l = go form some
 
 total_due : (h : Head) → InRange h → 12 + total h (due_after h) ≤ file_most h.form
 total_due h y =
-    let n : ℕ = h.n in
-    let m : ℕ = h.m in
+    let n : ℕ = h.candidates in
+    let m : ℕ = h.institutes in
     let lists : total h (replicate m 4) ≡ m * (4 + 2 * n) + 0 = rw append_none at (total_run h m 4 []) in
     omega (
       arith,
@@ -201,7 +200,7 @@ module _ (file : List ℕ) (cut : ℕ) (enough : 12 < cut) (long : cut ≤ lengt
       rw (there, kept, same_word 2 (omega arith))
 
   no_head : Head
-  no_head = record { form = form_of file; n = 1; m = 1; types = 0; policy = 0 }
+  no_head = record { form = form_of file; candidates = 1; institutes = 1; types = 0; policy = 0 }
 
   head_same : first_no (questions_at (take cut file) (head_of (take cut file)) 1 0) ≡ first_no (questions_at file (head_of file) 1 0)
   unfolding no_head

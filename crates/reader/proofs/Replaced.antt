@@ -10,13 +10,12 @@ use native.Mathlib.Nat.{add-zero, add-suc}
 use lib.Dec.{leb}
 use lib.ListN.{length, get_or, set, take, drop, length-drop, length-set}
 use lib.Seq.{length-sets, get_or-take, get_or-drop, get_or-set_same, get_or-set_other, ext_get_or}
-use Rattle.questions.specs.declared.head.Head.{Head}
 use Rattle.questions.specs.declared.form.Form.{Form}
 use Rattle.round.specs.Category.{code_of, category_of}
 use Rattle.lists.specs.Lists.{tabulate}
 use Rattle.round.specs.Round.{Candidate, Round}
 use Rattle.round.specs.Places.{candidate_at, no_candidate}
-use Rattle.questions.specs.Records.{length_at, body_at, next_at, start_of, body_of, form_of, head_in, head_of, own_steps, due_after, institute_record, candidate_record, merit_record}
+use Rattle.questions.specs.Records.{Head, length_at, body_at, next_at, start_of, body_of, form_of, head_in, head_of, own_steps, due_after, institute_record, candidate_record, merit_record}
 use Rattle.lists.specs.Numbers.{word}
 use Rattle.questions.specs.Questions.{asked, first_no, row_questions, row_bytes, candidate_questions, kind_questions, questions_at}
 use Rattle.questions.specs.Refusal.{passes, verdict_from, verdict}
@@ -59,22 +58,22 @@ module _ (form : Form) (body other row : List ℕ) (code : get_or other 0 0 ≡ 
   unfolding candidate_in
   other_candidate = λ t. record { category = category_of (code t); marks = marks t; row = row_in form (behind t) }
 
-  other_asked : (h : Head) → first_no (candidate_questions h body) ≡ 0 → first_no (row_questions h.form h.m (get_or body 0 0) row) ≡ 0 → first_no (candidate_questions h other) ≡ 0
+  other_asked : (h : Head) → first_no (candidate_questions h body) ≡ 0 → first_no (row_questions h.form h.institutes (get_or body 0 0) row) ≡ 0 → first_no (candidate_questions h other) ≡ 0
   other_asked h before passing =
-      (λ t. first_no (asked 8 (leb (code t) 4 && leb (suc (marks t)) (2 ^ h.types)) ∷ row_questions h.form h.m (code t) (behind t)))
+      (λ t. first_no (asked 8 (leb (code t) 4 && leb (suc (marks t)) (2 ^ h.types)) ∷ row_questions h.form h.institutes (code t) (behind t)))
       ∙ rw (first-yes 7 (leb (get_or body 0 0) 4 && leb (suc (get_or body 1 0)) (2 ^ h.types)) _ before).0 passing
 
 -- the round of a file, by its head
 abbrev round_by : List ℕ → Head → Round
 round_by file h = record {
-  candidates = tabulate h.n (λ i. candidate_in h.form (body_of file (candidate_record h i)));
-  institutes = tabulate h.m (λ j. institute_from h (body_of file (institute_record h j)) (body_of file (merit_record h j)));
+  candidates = tabulate h.candidates (λ i. candidate_in h.form (body_of file (candidate_record h i)));
+  institutes = tabulate h.institutes (λ j. institute_from h (body_of file (institute_record h j)) (body_of file (merit_record h j)));
   steps_listed = own_steps h;
 }
 
-module _ (file : List ℕ) (i : ℕ) (row : List ℕ) (accepted : verdict file ≡ passes) (there : i < (head_of file).n)
+module _ (file : List ℕ) (i : ℕ) (row : List ℕ) (accepted : verdict file ≡ passes) (there : i < (head_of file).candidates)
     (long : length row ≡ length (row_bytes (body_of file (candidate_record (head_of file) i))))
-    (passing : first_no (row_questions (form_of file) (head_of file).m (get_or (body_of file (candidate_record (head_of file) i)) 0 0) row) ≡ 0) where
+    (passing : first_no (row_questions (form_of file) (head_of file).institutes (get_or (body_of file (candidate_record (head_of file) i)) 0 0) row) ≡ 0) where
   abbrev h : Head
   h = head_of file
 
@@ -206,7 +205,7 @@ module _ (file : List ℕ) (i : ℕ) (row : List ℕ) (accepted : verdict file �
 
   -- the candidate's record is due with kind 3
   due_here : (k : ℕ) → k ≡ c → get_or (1 ∷ due_after h) k 0 ≡ 3
-  due_here k e = let d : k ≡ suc (h.m + i) = omega arith in rw d (due_candidate h i there)
+  due_here k e = let d : k ≡ suc (h.institutes + i) = omega arith in rw d (due_candidate h i there)
 
   file_passes : verdict_from file h (1 ∷ due_after h) (start_of file 0) ≡ passes
   unfolding verdict verdict_from start_of
@@ -244,18 +243,18 @@ module _ (file : List ℕ) (i : ℕ) (row : List ℕ) (accepted : verdict file �
     where
       candidates : (round_by other h).candidates ≡ (with_row (round_of file) i (row_in (form_of file) row)).candidates
       candidates =
-          tabulate_set h.n i (λ k. candidate_in (form_of file) (body_of other (candidate_record h k))) (λ k. candidate_in (form_of file) (body_of file (candidate_record h k))) no_candidate _ there
+          tabulate_set h.candidates i (λ k. candidate_in (form_of file) (body_of other (candidate_record h k))) (λ k. candidate_in (form_of file) (body_of file (candidate_record h k))) no_candidate _ there
           (λ k l o. ap (candidate_in (form_of file)) (body_same (candidate_record h k) (λ e. o (omega arith)))) candidate_new
 
       institutes : (round_by other h).institutes ≡ (round_of file).institutes
       institutes =
-          tabulate_same h.m _ _
+          tabulate_same h.institutes _ _
           (λ j l. ap₂ (institute_from h) (body_same (institute_record h j) (λ e. omega arith)) (body_same (merit_record h j) (λ e. omega arith)))
 
 -- a lawful new row, as long as the one that the file has: the file with it means the round with that row
 module _ (file : List ℕ) (accepted : verdict file ≡ passes) (i : ℕ) (row : List ℕ) (lawful : LawfulRow (form_of file) (round_of file) i row)
     (long : length row ≡ length (row_bytes (body_of file (candidate_record (head_of file) i)))) where
-  inside : i < (head_of file).n
+  inside : i < (head_of file).candidates
   inside = omega (arith, lawful.candidate, length_candidates file)
 
   own_code : code_of (candidate_at (round_of file) i).category ≡ get_or (body_of file (candidate_record (head_of file) i)) 0 0
@@ -266,7 +265,7 @@ module _ (file : List ℕ) (accepted : verdict file ≡ passes) (i : ℕ) (row :
       ∙ code_category (get_or (body_of file (candidate_record (head_of file) i)) 0 0)
       (candidate_yes (head_of file) (body_of file (candidate_record (head_of file) i)) lead.body_yes).own_code
 
-  row_passes : first_no (row_questions (form_of file) (head_of file).m (get_or (body_of file (candidate_record (head_of file) i)) 0 0) row) ≡ 0
+  row_passes : first_no (row_questions (form_of file) (head_of file).institutes (get_or (body_of file (candidate_record (head_of file) i)) 0 0) row) ≡ 0
   row_passes = rw (← own_code, ← length_institutes file) lawful.passing
 
   pub lawful_passes : verdict (replaced file i row) ≡ passes

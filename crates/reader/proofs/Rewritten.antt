@@ -10,12 +10,11 @@ use borrow.Author.Tests.{leb-true, le-leb, eqb-true, eq-eqb, ne_eqb}
 use lib.Dec.{leb, eqb}
 use lib.ListN.{length, get_or, take, drop, replicate, length-append, take-append-drop, get_or-append}
 use lib.Seq.{get_or-take, get_or-append-add, length-take-le}
-use Rattle.questions.specs.declared.head.Head.{Head}
 use Rattle.questions.specs.declared.form.Form.{Form}
 use Rattle.questions.specs.declared.form.Form.TheVariants.{Narrow, Wide}
 use Rattle.questions.specs.Form.{form_kind, institutes_most}
 use Rattle.lists.specs.Lists.{tabulate, joined}
-use Rattle.questions.specs.Records.{length_at, body_at, next_at, start_of, body_of, form_of, head_in, head_of, own_steps, due_after, institute_record, candidate_record, merit_record}
+use Rattle.questions.specs.Records.{Head, length_at, body_at, next_at, start_of, body_of, form_of, head_in, head_of, own_steps, due_after, institute_record, candidate_record, merit_record}
 use Rattle.lists.specs.Numbers.{word}
 use Rattle.questions.specs.Questions.{asked, head_questions, first_no, length_allowed, kind_questions, questions_at, merit_count, merit_in}
 use Rattle.lists.specs.Numbers.{within}
@@ -52,8 +51,8 @@ module _ (form : Form) (body : List ℕ) (long : length body ≡ 8) where
   head_two : head_in form (list_head body) ≡ with_policy 2 (head_in form body)
   head_two = λ i. record {
     form = form;
-    n = word_kept 0 (omega arith) i;
-    m = word_kept 2 (omega arith) i;
+    candidates = word_kept 0 (omega arith) i;
+    institutes = word_kept 2 (omega arith) i;
     types = word_kept 4 (omega arith) i;
     policy = policy_two i;
   }
@@ -77,7 +76,7 @@ module _ (form : Form) (body : List ℕ) (long : length body ≡ 8) where
         let all : within 1 512 (word body 0) && (within 1 (institutes_most form) (word body 2) && (leb (word body 4) 8 && true)) ≡ true =
         both_yes (and_fst (within 1 512 (word body 0)) (within 1 (institutes_most form) (word body 2) && numbers) fifth)
         (both_yes (and_fst (within 1 (institutes_most form) (word body 2)) numbers fifth_institutes) (both_yes fifth_types refl)) in
-        (λ i. first_no (asked 5 (within 1 512 (head_two i).n && (within 1 (institutes_most form) (head_two i).m && (leb (head_two i).types 8 && leb (head_two i).policy 2))) ∷ []))
+        (λ i. first_no (asked 5 (within 1 512 (head_two i).candidates && (within 1 (institutes_most form) (head_two i).institutes && (leb (head_two i).types 8 && leb (head_two i).policy 2))) ∷ []))
         ∙ (λ i. first_no (asked 5 (all i) ∷ []))
 
 -- the form of a file that starts with a short record of the head's kind
@@ -115,7 +114,7 @@ module _ (file : List ℕ) (lawful : verdict file ≡ passes) (policy-few : (hea
   head_long = head_read.body_length ∙ eqb-true (length_at file 0) 8 head_read.allowed
 
   -- the steps of each institute as a list
-  institute_list : (j : ℕ) → j < h.m → AsList h (body_of file (institute_record h j))
+  institute_list : (j : ℕ) → j < h.institutes → AsList h (body_of file (institute_record h j))
   institute_list j l =
       let asked-yes = all_passed.institute_yes j l in
       let found = lead_yes file h 2 (start_of file (institute_record h j)) asked-yes in
@@ -130,13 +129,13 @@ module _ (file : List ℕ) (lawful : verdict file ≡ passes) (policy-few : (hea
   kept = drop from file
 
   abbrev kinds : List ℕ
-  kinds = replicate h.n 3 ++ replicate h.m 4
+  kinds = replicate h.candidates 3 ++ replicate h.institutes 4
 
   from_passes : verdict_from file h kinds from ≡ passes
   unfolding verdict start_of
   from_passes =
       let both = judged_yes (first_no (questions_at file h 1 0)) 0 (verdict_from file h (due_after h) (next_at file 0)) lawful in
-      rw add-zero (passes_after file h 2 kinds 1 h.m both.1)
+      rw add-zero (passes_after file h 2 kinds 1 h.institutes both.1)
 
   split : take from file ++ kept ≡ file
   split = take-append-drop from file
@@ -147,23 +146,23 @@ module _ (file : List ℕ) (lawful : verdict file ≡ passes) (policy-few : (hea
   -- the questions of candidates and merit lists do not turn on the policy
   other_policy : verdict_from kept h kinds 0 ≡ verdict_from kept h₂ kinds 0
   unfolding questions_at verdict_from
-  other_policy = other_head kept h h₂ 3 (replicate h.m 4) (λ s. refl) lists h.n 0
+  other_policy = other_head kept h h₂ 3 (replicate h.institutes 4) (λ s. refl) lists h.candidates 0
     where
-      lists : (s : ℕ) → verdict_from kept h (replicate h.m 4) s ≡ verdict_from kept h₂ (replicate h.m 4) s
+      lists : (s : ℕ) → verdict_from kept h (replicate h.institutes 4) s ≡ verdict_from kept h₂ (replicate h.institutes 4) s
       lists s =
-          ap (λ (l : List ℕ). verdict_from kept h l s) (sym (append-nil (replicate h.m 4)))
-          ∙ (other_head kept h h₂ 4 [] (λ s. refl) (λ s. refl) h.m s
-          ∙ ap (λ (l : List ℕ). verdict_from kept h₂ l s) (append-nil (replicate h.m 4)))
+          ap (λ (l : List ℕ). verdict_from kept h l s) (sym (append-nil (replicate h.institutes 4)))
+          ∙ (other_head kept h h₂ 4 [] (λ s. refl) (λ s. refl) h.institutes s
+          ∙ ap (λ (l : List ℕ). verdict_from kept h₂ l s) (append-nil (replicate h.institutes 4)))
 
   kept_passes : verdict_from kept h₂ kinds 0 ≡ passes
   kept_passes =
       sym other_policy
       ∙ passes_by_itself (take from file) kept h kinds (ap₂ (λ (l : List ℕ) (s : ℕ). verdict_from l h kinds s) split from_length ∙ from_passes)
 
-  kept_records : (k : ℕ) → body_of file (1 + (h.m + k)) ≡ body_of kept k
+  kept_records : (k : ℕ) → body_of file (1 + (h.institutes + k)) ≡ body_of kept k
   kept_records k =
       let here : start_of (take from file ++ kept) (candidate_record h 0) ≡ length (take from file) = ap (λ (l : List ℕ). start_of l (candidate_record h 0)) split ∙ sym from_length in
-      let e : 1 + (h.m + k) ≡ candidate_record h 0 + k = omega arith in
+      let e : 1 + (h.institutes + k) ≡ candidate_record h 0 + k = omega arith in
       ap₂ body_of (sym split) e ∙ records_behind (take from file) kept (candidate_record h 0) here k
 
   -- the parts that are written anew
@@ -171,7 +170,7 @@ module _ (file : List ℕ) (lawful : verdict file ≡ passes) (policy-few : (hea
   body₂ j = list_body h (body_of file (institute_record h j))
 
   abbrev rest₂ : List ℕ
-  rest₂ = joined (tabulate h.m (λ j. short_record 7 (body₂ j))) ++ kept
+  rest₂ = joined (tabulate h.institutes (λ j. short_record 7 (body₂ j))) ++ kept
 
   abbrev kind₁ : ℕ
   kind₁ = form_kind (form_of file) 1
@@ -181,15 +180,15 @@ module _ (file : List ℕ) (lawful : verdict file ≡ passes) (policy-few : (hea
 
   written : as_lists file ≡ file₂
   unfolding as_lists start_of
-  written = append_assoc (short_record kind₁ (list_head (body_at file 0))) (joined (tabulate h.m (λ j. short_record 7 (body₂ j)))) kept
+  written = append_assoc (short_record kind₁ (list_head (body_at file 0))) (joined (tabulate h.institutes (λ j. short_record 7 (body₂ j)))) kept
 
   head₂ : head_of file₂ ≡ h₂
   head₂ = ap₂ head_in (form_short (form_of file) (list_head (body_at file 0)) rest₂) (short_body kind₁ (list_head (body_at file 0)) rest₂) ∙ head_two (form_of file) (body_at file 0) head_long
 
   rest_passes : verdict_from rest₂ h₂ (due_after h₂) 0 ≡ passes
-  rest_passes = run_passes 7 body₂ kept h₂ 2 kinds 0 h.m refl each kept_passes
+  rest_passes = run_passes 7 body₂ kept h₂ 2 kinds 0 h.institutes refl each kept_passes
     where
-      each : (k : ℕ) → 0 ≤ k → k < 0 + h.m → (length_allowed h₂ 2 (length (body₂ k)) ≡ true) × (first_no (kind_questions h₂ 2 (body₂ k)) ≡ 0)
+      each : (k : ℕ) → 0 ≤ k → k < 0 + h.institutes → (length_allowed h₂ 2 (length (body₂ k)) ≡ true) × (first_no (kind_questions h₂ 2 (body₂ k)) ≡ 0)
       each k l m = let found = institute_list k (omega arith) in (found.allowed_list, found.answered_list)
 
   file_passes : verdict_from file₂ h₂ (1 ∷ due_after h₂) 0 ≡ passes
@@ -216,35 +215,35 @@ module _ (file : List ℕ) (lawful : verdict file ≡ passes) (policy-few : (hea
       let e : 1 + k ≡ suc k = omega arith in
       ap₂ body_of written e ∙ short_then kind₁ (list_head (body_at file 0)) rest₂ k
 
-  same_body : (k : ℕ) → body_of (as_lists file) (1 + (h.m + k)) ≡ body_of file (1 + (h.m + k))
-  same_body k = body_after (h.m + k) ∙ (run_then 7 body₂ kept 0 h.m k ∙ sym (kept_records k))
+  same_body : (k : ℕ) → body_of (as_lists file) (1 + (h.institutes + k)) ≡ body_of file (1 + (h.institutes + k))
+  same_body k = body_after (h.institutes + k) ∙ (run_then 7 body₂ kept 0 h.institutes k ∙ sym (kept_records k))
 
-  list_body_lem : (j : ℕ) → j < h.m → body_of (as_lists file) (1 + j) ≡ body₂ j
+  list_body_lem : (j : ℕ) → j < h.institutes → body_of (as_lists file) (1 + j) ≡ body₂ j
   list_body_lem j l =
       let e : 0 + j ≡ j = omega arith in
-      body_after j ∙ (run_body 7 body₂ kept 0 h.m j l ∙ ap body₂ e)
+      body_after j ∙ (run_body 7 body₂ kept 0 h.institutes j l ∙ ap body₂ e)
 
   -- it means the candidates of the file
   pub lists_candidates : (round_of (as_lists file)).candidates ≡ (round_of file).candidates
   unfolding round_of
   lists_candidates =
-      ap (λ (H : Head). tabulate H.n (λ i. candidate_in H.form (body_of (as_lists file) (candidate_record H i)))) lists_head
-      ∙ tabulate_same h.n _ _ (λ i l. ap (candidate_in h.form) (same_body i))
+      ap (λ (H : Head). tabulate H.candidates (λ i. candidate_in H.form (body_of (as_lists file) (candidate_record H i)))) lists_head
+      ∙ tabulate_same h.candidates _ _ (λ i l. ap (candidate_in h.form) (same_body i))
 
   -- it means the institutes of the file
   pub lists_institutes : (round_of (as_lists file)).institutes ≡ (round_of file).institutes
   unfolding round_of institute_from
   lists_institutes =
-      ap (λ (H : Head). tabulate H.m (λ j. institute_from H (body_of (as_lists file) (institute_record H j)) (body_of (as_lists file) (merit_record H j)))) lists_head
-      ∙ tabulate_same h.m _ _ same
+      ap (λ (H : Head). tabulate H.institutes (λ j. institute_from H (body_of (as_lists file) (institute_record H j)) (body_of (as_lists file) (merit_record H j)))) lists_head
+      ∙ tabulate_same h.institutes _ _ same
     where
-      same : (j : ℕ) → j < h.m
+      same : (j : ℕ) → j < h.institutes
           → institute_from h₂ (body_of (as_lists file) (institute_record h j)) (body_of (as_lists file) (merit_record h j))
           ≡ institute_from h (body_of file (institute_record h j)) (body_of file (merit_record h j))
       same j l =
           let steps : steps_in h₂ (body_of (as_lists file) (institute_record h j)) ≡ steps_in h (body_of file (institute_record h j)) =
           ap (steps_in h₂) (list_body_lem j l) ∙ (institute_list j l).steps_list in
-          let list : body_of (as_lists file) (merit_record h j) ≡ body_of file (merit_record h j) = same_body (h.n + j) in
+          let list : body_of (as_lists file) (merit_record h j) ≡ body_of file (merit_record h j) = same_body (h.candidates + j) in
           λ i. record { steps = steps i; merit = tabulate (merit_count (list i)) (merit_in (list i)) }
 
   -- it has bytes where the file has
@@ -252,7 +251,7 @@ module _ (file : List ℕ) (lawful : verdict file ≡ passes) (policy-few : (hea
   lists_bytes b =
       rw written
       (bytes_append (short_record kind₁ (list_head (body_at file 0))) rest₂ front
-      (bytes_append (joined (tabulate h.m (λ j. short_record 7 (body₂ j)))) kept (bytes_joined 0 h.m (λ j. short_record 7 (body₂ j)) lists) (bytes_drop from file b)))
+      (bytes_append (joined (tabulate h.institutes (λ j. short_record 7 (body₂ j)))) kept (bytes_joined 0 h.institutes (λ j. short_record 7 (body₂ j)) lists) (bytes_drop from file b)))
     where
       few : h.types ≤ 8
       few = leb-true h.types 8 (fifth_types (form_of file) (body_at file 0) head_long head_read.body_yes)
@@ -265,7 +264,7 @@ module _ (file : List ℕ) (lawful : verdict file ≡ passes) (policy-few : (hea
           bytes_short kind₁ (list_head (body_at file 0)) (kind_few (form_of file)) (omega (arith, length_head (form_of file) (body_at file 0) head_long))
           (bytes_append (take 6 (body_at file 0)) (2 ∷ 0 ∷ []) (bytes_take 6 (body_at file 0) (body_bytes 0)) (bytes_more 2 (0 ∷ []) (omega arith) (bytes_more 0 [] (omega arith) bytes_none)))
 
-      lists : (j : ℕ) → j < 0 + h.m → Bytes (short_record 7 (body₂ j))
+      lists : (j : ℕ) → j < 0 + h.institutes → Bytes (short_record 7 (body₂ j))
       lists j l =
           bytes_short 7 (body₂ j) (omega arith) (list_short h (length (body₂ j)) few (institute_list j (omega arith)).allowed_list)
           (bytes_list h policy-few (body_of file (institute_record h j)) (body_bytes (start_of file (institute_record h j))))

@@ -9,7 +9,7 @@ use lib.Dec.{eqb, ltb}
 use lib.ListN.{length, get_or, set, replicate, length-set}
 use lib.Seq.{get_or-set_same, get_or-set_other}
 use borrow.Author.Tests.{eqb-true, eqb-false, ne_eqb, ltb-true, ltb-false}
-use Rattle.questions.specs.declared.head.Head.{Head}
+use Rattle.questions.specs.Records.{Head}
 use Rattle.lists.proofs.Words.{from_same}
 use Rattle.lists.specs.Lists.{tabulate, tabulate_from}
 use Rattle.round.specs.Category.{category_of}
@@ -149,7 +149,7 @@ rule_table : (types k : ℕ) (R : ℕ → ℕ → ℕ) (table : List ℕ) → ty
 rule_table types k R table few small long coded handed_on rows = record {
   types_most = few;
   steps_most = small;
-  room = omega (arith, row_start types k 12 few small);
+  long = omega (arith, row_start types k 12 few small);
   coded = λ i l. rw (rows.hold i l 0 (omega arith)) (coded i l);
   handed_on = λ i l. rw (rows.hold i l 1 (omega arith)) (handed_on i l);
   own_most = λ i l. rw (rows.hold i l 2 (omega arith)) (rows.own_most i l);
@@ -174,7 +174,7 @@ module _ (h : Head) (body : List ℕ) (steps : LawfulSteps h body) (table : List
   pub body_rules : (n : ℕ) → n ≡ step_count h body → eqb h.policy 1 ≡ false → RowsTo h.types n (rule_numbers h body) table → RulesRead h body table n
   body_rules n e other rows = record {
     table_of =
-        rule_table h.types n (rule_numbers h body) table steps.body_of.types_most (omega (arith, steps.body_of.steps_most)) long
+        rule_table h.types n (rule_numbers h body) table steps.long.types_most (omega (arith, steps.long.steps_most)) long
         (λ i l. steps.coded i (omega arith)) (λ i l. steps.handed_on i (omega arith)) rows;
     rules_of =
         unfold steps_in in
@@ -190,7 +190,7 @@ module _ (h : Head) (body : List ℕ) (steps : LawfulSteps h body) (table : List
   pub six_rules : (before : List ℕ) → eqb h.policy 1 ≡ true → RowsTo h.types 5 (rule_numbers h body) before → RuleWritten h.types 5 (λ s. 0) before table → RulesRead h body table 6
   six_rules before one rows w = record {
     table_of =
-        rule_table h.types 6 (six_rows h body) table steps.body_of.types_most (omega arith) long
+        rule_table h.types 6 (six_rows h body) table steps.long.types_most (omega arith) long
         (λ i l. equal_or i 5 (λ z. rw z (omega arith)) (λ n. rw (ne_eqb i 5 n) (steps.coded i (below i l n))))
         (λ i l. equal_or i 5 (λ z. rw z (omega arith)) (λ n. rw (ne_eqb i 5 n) (steps.handed_on i (below i l n)))) all;
     rules_of =

@@ -12,13 +12,12 @@ use borrow.Author.Tests.{leb-true, eqb-true}
 use lib.Dec.{leb, eqb}
 use lib.ListN.{length, get_or, set, replicate, length-set}
 use lib.Seq.{get_or-set_same, get_or-set_other}
-use Rattle.questions.specs.declared.head.Head.{Head}
 use Rattle.reader.specs.declared.records.Part.{Part}
 use Rattle.reader.specs.declared.records.Part.TheVariants.{Lawful, Refused}
 use Rattle.questions.specs.declared.form.Form.{Form}
 use Rattle.questions.specs.declared.form.Form.TheVariants.{Narrow, Wide}
 use Rattle.questions.specs.Form.{entry_width}
-use Rattle.questions.specs.Records.{length_at, next_at, start_of}
+use Rattle.questions.specs.Records.{Head, length_at, next_at, start_of}
 use Rattle.questions.specs.Questions.{even, row_allowed, institute_allowed, length_allowed, first_no, questions_at}
 use Rattle.questions.specs.Refusal.{refused, verdict_from}
 use Rattle.questions.specs.Read.{InRange}
@@ -50,14 +49,14 @@ body_most h y kind len e = go (eqb kind 1) (eqb kind 2) (eqb kind 3) e
     row Wide = omega arith
 
     go : (a b c : Bool)
-        → cond a (eqb len 8) (cond b (institute_allowed h len) (cond c (row_allowed h.form len) (leb len (2 * h.n) && even len))) ≡ true
+        → cond a (eqb len 8) (cond b (institute_allowed h len) (cond c (row_allowed h.form len) (leb len (2 * h.candidates) && even len))) ≡ true
         → len ≤ 1024
     go true b c e = omega (arith, eqb-true len 8 e)
     go false true c e =
         let fits = answers.length_institute h len e in
         omega (arith, fits.by_width, mul-le-mul fits.most (width_most h y.types_most))
     go false false true e = omega (arith, (answers.length_candidate h len e).most, row h.form)
-    go false false false e = omega (arith, leb-true len (2 * h.n) (and_fst (leb len (2 * h.n)) (even len) e), y.candidates_most)
+    go false false false e = omega (arith, leb-true len (2 * h.candidates) (and_fst (leb len (2 * h.candidates)) (even len) e), y.candidates_most)
 
 module _ (file : List ℕ) (h : Head) (kind first count from : ℕ) (before : List ℕ) where
   -- after i records, the next is due at a byte

@@ -10,14 +10,13 @@ use lib.Dec.{eqb}
 use lib.ListN.{length, get_or, replicate, length-append, length-replicate, length-drop, get_or-append}
 use lib.Seq.{get_or-append-add}
 use borrow.Author.Tests.{eqb-true, ne_eqb}
-use Rattle.questions.specs.declared.head.Head.{Head}
 use Rattle.round.specs.declared.entry.Category.TheVariants.{Open}
 use Rattle.round.specs.declared.entry.Entry.{Entry}
 use Rattle.questions.specs.declared.form.Form.{Form}
 use Rattle.round.specs.Category.{code_of, category_of}
 use Rattle.questions.specs.Form.{entry_width}
 use Rattle.lists.specs.Lists.{tabulate, bit, list_sum, sum_of}
-use Rattle.questions.specs.Records.{form_of, head_of, length_at, body_at, body_of, start_of, own_steps, institute_record, candidate_record, merit_record}
+use Rattle.questions.specs.Records.{Head, form_of, head_of, length_at, body_at, body_of, start_of, own_steps, institute_record, candidate_record, merit_record}
 use Rattle.questions.specs.Steps.{step_count, positions_in, reserved_in, step_code}
 use Rattle.questions.specs.Questions.{entry_count, institute_in, code_in, row_bytes, merit_count, merit_in}
 use Rattle.questions.specs.Refusal.{passes, verdict}
@@ -161,7 +160,7 @@ module _ (form : Form) (institutes types : ℕ) (body : List ℕ) (y : Answers.C
   }
 
 -- an institute's body and that of its merit list
-module _ (h : Head) (body list : List ℕ) (long : InstituteBody h body) (y : Answers.InstituteYes h body) (z : Answers.MeritYes h.n list) where
+module _ (h : Head) (body list : List ℕ) (long : InstituteBody h body) (y : Answers.InstituteYes h body) (z : Answers.MeritYes h.candidates list) where
   merit_length_lem : length (institute_from h body list).merit ≡ merit_count list
   unfolding institute_from
   merit_length_lem = length_tabulate 0 (merit_count list) (merit_in list)
@@ -230,7 +229,7 @@ module _ (h : Head) (body list : List ℕ) (long : InstituteBody h body) (y : An
   unfolding institute_from
   institute_steps = steps_by_lem h body
 
-  sound_institute : SoundInstitute h.n h.types (institute_from h body list)
+  sound_institute : SoundInstitute h.candidates h.types (institute_from h body list)
   unfolding Good institute_from
   sound_institute =
       let b : Bool = eqb h.policy 1 in
@@ -248,48 +247,48 @@ module _ (h : Head) (body list : List ℕ) (long : InstituteBody h body) (y : An
       }
 
 module _ (file : List ℕ) where
-  pub candidate_at_lem : (i : ℕ) → i < (head_of file).n → candidate_at (round_of file) i ≡ candidate_in (head_of file).form (body_of file (candidate_record (head_of file) i))
+  pub candidate_at_lem : (i : ℕ) → i < (head_of file).candidates → candidate_at (round_of file) i ≡ candidate_in (head_of file).form (body_of file (candidate_record (head_of file) i))
   unfolding round_of
-  candidate_at_lem i l = tabulate_at (head_of file).n (λ i. candidate_in (head_of file).form (body_of file (candidate_record (head_of file) i))) no_candidate i l
+  candidate_at_lem i l = tabulate_at (head_of file).candidates (λ i. candidate_in (head_of file).form (body_of file (candidate_record (head_of file) i))) no_candidate i l
 
-  pub institute_at_lem : (j : ℕ) → j < (head_of file).m
+  pub institute_at_lem : (j : ℕ) → j < (head_of file).institutes
       → institute_at (round_of file) j ≡ institute_from (head_of file) (body_of file (institute_record (head_of file) j)) (body_of file (merit_record (head_of file) j))
   unfolding round_of
   institute_at_lem j l =
-      tabulate_at (head_of file).m (λ j. institute_from (head_of file) (body_of file (institute_record (head_of file) j)) (body_of file (merit_record (head_of file) j))) no_institute j l
+      tabulate_at (head_of file).institutes (λ j. institute_from (head_of file) (body_of file (institute_record (head_of file) j)) (body_of file (merit_record (head_of file) j))) no_institute j l
 
   pub listed_round : (round_of file).steps_listed ≡ own_steps (head_of file)
   unfolding round_of
   listed_round = refl
 
-  pub length_candidates : length (round_of file).candidates ≡ (head_of file).n
+  pub length_candidates : length (round_of file).candidates ≡ (head_of file).candidates
   unfolding round_of
-  length_candidates = length_tabulate 0 (head_of file).n (λ i. candidate_in (head_of file).form (body_of file (candidate_record (head_of file) i)))
+  length_candidates = length_tabulate 0 (head_of file).candidates (λ i. candidate_in (head_of file).form (body_of file (candidate_record (head_of file) i)))
 
-  pub length_institutes : length (round_of file).institutes ≡ (head_of file).m
+  pub length_institutes : length (round_of file).institutes ≡ (head_of file).institutes
   unfolding round_of
   length_institutes =
-      length_tabulate 0 (head_of file).m (λ j. institute_from (head_of file) (body_of file (institute_record (head_of file) j)) (body_of file (merit_record (head_of file) j)))
+      length_tabulate 0 (head_of file).institutes (λ j. institute_from (head_of file) (body_of file (institute_record (head_of file) j)) (body_of file (merit_record (head_of file) j)))
 
   module _ (p : Passed file) where
     pub head_fits : InRange (head_of file)
     head_fits = Answers.head_yes (form_of file) (body_at file 0) (Answers.lead_yes file (head_of file) 1 0 p.head_yes).body_yes
 
-    candidate_sound : (i : ℕ) → i < (head_of file).n → SoundCandidate (head_of file).m (head_of file).types (candidate_at (round_of file) i)
+    candidate_sound : (i : ℕ) → i < (head_of file).candidates → SoundCandidate (head_of file).institutes (head_of file).types (candidate_at (round_of file) i)
     candidate_sound i l =
         let lead = Answers.lead_yes file (head_of file) 3 (start_of file (candidate_record (head_of file) i)) (p.candidate_yes i l) in
         let len : ℕ = length_at file (start_of file (candidate_record (head_of file) i)) in
         let short : len ≤ 2 + 16 * entry_width (head_of file).form = (Answers.length_candidate (head_of file) len lead.allowed).most in
-        rw (candidate_at_lem i l) (sound_candidate (head_of file).form (head_of file).m (head_of file).types _ (Answers.candidate_yes (head_of file) _ lead.body_yes) (rw lead.body_length short))
+        rw (candidate_at_lem i l) (sound_candidate (head_of file).form (head_of file).institutes (head_of file).types _ (Answers.candidate_yes (head_of file) _ lead.body_yes) (rw lead.body_length short))
 
-    institute_sound : (j : ℕ) → j < (head_of file).m → SoundInstitute (head_of file).n (head_of file).types (institute_at (round_of file) j)
+    institute_sound : (j : ℕ) → j < (head_of file).institutes → SoundInstitute (head_of file).candidates (head_of file).types (institute_at (round_of file) j)
     institute_sound j l =
         let lead = Answers.lead_yes file (head_of file) 2 (start_of file (institute_record (head_of file) j)) (p.institute_yes j l) in
         let list = Answers.lead_yes file (head_of file) 4 (start_of file (merit_record (head_of file) j)) (p.merit_yes j l) in
         let long = Answers.institute_body (head_of file) (body_of file (institute_record (head_of file) j)) head_fits.types_most (rw lead.body_length lead.allowed) in
         rw (institute_at_lem j l) (sound_institute (head_of file) _ _ long (Answers.institute_yes (head_of file) _ lead.body_yes) (Answers.merit_yes (head_of file) _ list.body_yes))
 
-    numbered_steps : (j : ℕ) → j < (head_of file).m → length (institute_at (round_of file) j).steps ≤ step_numbers (round_of file) j
+    numbered_steps : (j : ℕ) → j < (head_of file).institutes → length (institute_at (round_of file) j).steps ≤ step_numbers (round_of file) j
     unfolding institute_from
     numbered_steps j l = go (round_of file).steps_listed refl
       where

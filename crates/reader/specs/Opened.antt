@@ -1,6 +1,6 @@
 -- The opened round: that of an accepted file, or one that differs from it by a row or by a rise, read from the same file, unwritten.
 use Rattle.std.specs.Prelude.{ℕ, ◌*◌, ◌<◌, ◌≤◌, ◌≡◌, Bool, false, cond, List, eqb, length}
-use Rattle.questions.specs.declared.head.Head.{Head}
+use Rattle.questions.specs.declared.head.Head.{Head as CodeHead}
 use Rattle.questions.specs.declared.form.Form.{Form}
 use Rattle.reader.specs.declared.opened.Change.{Change}
 use Rattle.reader.specs.declared.opened.Change.TheVariants.{Nothing, Row, Rise}
@@ -15,6 +15,7 @@ use Rattle.questions.specs.Refusal.{passes, verdict}
 use Rattle.questions.specs.Reading.{row_in, round_of}
 use Rattle.round.specs.Changed.{with_row, stood_at, raised}
 use Rattle.reader.specs.Outcome.{Starts}
+use Rattle.questions.specs.Read.{as_head}
 
 -- the round with a change; a new row stands in bytes of its own
 abbrev pub changed : Change → Form → List ℕ → Round → Round
@@ -26,7 +27,7 @@ changed (Rise institute place by) form row r = raised r institute place by
 unfoldable pub opened_round : List ℕ → Opened → List ℕ → Round
 opened_round file o row = changed o.change (form_of file) row (round_of file)
 
-abbrev pub unchanged : Head → Opened
+abbrev pub unchanged : CodeHead → Opened
 unchanged h = record { head = h; change = Nothing }
 
 -- the change is to candidate i's row
@@ -68,6 +69,6 @@ LawfulChange (Rise institute place by) form row r = LawfulRise r institute place
 -- the bytes and the table at hand are those of the round: an accepted file with its head, where its records start, and a lawful change
 pub record OpenedFile (file : List ℕ) (o : Opened) (row starts : List ℕ) : Type 0 where
   pub accepted : verdict file ≡ passes
-  pub head : o.head ≡ head_of file
+  pub head : as_head o.head ≡ head_of file
   pub table : Starts file starts
   pub change : LawfulChange o.change (form_of file) row (round_of file)

@@ -1,14 +1,15 @@
 -- What the reader of a round file answers (document 01, "The questions, in order"), and the table that it fills.
 use Rattle.std.specs.Prelude.{ℕ, ◌≡◌, List}
-use Rattle.questions.specs.declared.head.Head.{Head}
+use Rattle.questions.specs.declared.head.Head.{Head as CodeHead}
 use Rattle.reader.specs.declared.records.Part.{Part}
 use Rattle.reader.specs.declared.records.Part.TheVariants.{Lawful}
 use Rattle.reader.specs.declared.records.Part.TheVariants.{Refused as PartRefused}
 use Rattle.reader.specs.declared.reader.Reading.{Reading}
 use Rattle.reader.specs.declared.reader.Reading.TheVariants.{Read, Refused}
-use Rattle.questions.specs.Records.{head_of, due_after, start_of, behind_head}
+use Rattle.questions.specs.Records.{Head, head_of, due_after, start_of, behind_head}
 use Rattle.questions.specs.Refusal.{Verdict, passes, refused, verdict_from, verdict}
 use Rattle.reader.specs.Parts.{StartsTo}
+use Rattle.questions.specs.Read.{as_head}
 
 -- the verdict that an answer stands for
 abbrev pub verdict_of : Reading → Verdict
@@ -27,11 +28,11 @@ Starts file table = StartsTo file (behind_head (head_of file)) table
 -- what reading the records after the head comes to, from a byte on, with the table of their starts
 pub record RestRead (file : List ℕ) (h : Head) (from : ℕ) (r : Reading) (starts : List ℕ) : Type 0 where
   pub answer : verdict_of r ≡ verdict_from file h (due_after h) from
-  pub head : (k : Head) → r ≡ Read k → k ≡ h
-  pub table : (k : Head) → r ≡ Read k → from ≡ start_of file 1 → StartsTo file (behind_head h) starts
+  pub head : (k : CodeHead) → r ≡ Read k → as_head k ≡ h
+  pub table : (k : CodeHead) → r ≡ Read k → from ≡ start_of file 1 → StartsTo file (behind_head h) starts
 
 -- what reading a file comes to, with the table. What a refusal leaves in the table is free: it is the caller's own, and a refused file has no round
 pub record RoundRead (file : List ℕ) (r : Reading) (starts : List ℕ) : Type 0 where
   pub answer : verdict_of r ≡ verdict file
-  pub head : (h : Head) → r ≡ Read h → h ≡ head_of file
-  pub table : (h : Head) → r ≡ Read h → Starts file starts
+  pub head : (h : CodeHead) → r ≡ Read h → as_head h ≡ head_of file
+  pub table : (h : CodeHead) → r ≡ Read h → Starts file starts

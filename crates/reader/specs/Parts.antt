@@ -1,9 +1,8 @@
 -- What the reader's answers about some records stand for (document 01, "The questions, in order").
 use Rattle.std.specs.Prelude.{ℕ, ◌+◌, ◌*◌, ◌≤◌, ◌<◌, ◌≡◌, cond, List, ◌++◌, eqb, length, get_or, replicate}
-use Rattle.questions.specs.declared.head.Head.{Head}
 use Rattle.reader.specs.declared.records.Part.{Part}
 use Rattle.reader.specs.declared.records.Part.TheVariants.{Lawful, Refused}
-use Rattle.questions.specs.Records.{start_of}
+use Rattle.questions.specs.Records.{Head, start_of}
 use Rattle.questions.specs.Refusal.{Verdict, refused, verdict_from}
 
 -- by the number of the first question of a record that is answered no, 0 for none

@@ -1,9 +1,8 @@
 -- A file under policy 0 or 1 with the steps of its institutes written as lists (document 02, Point 7: "Policies 0 and 1, written as such lists, ..").
 use Rattle.std.specs.Prelude.{ℕ, ◌*◌, cond, List, [], ◌∷◌, ◌++◌, eqb, length, take, drop, replicate}
-use Rattle.questions.specs.declared.head.Head.{Head}
 use Rattle.questions.specs.Form.{form_kind}
 use Rattle.lists.specs.Lists.{tabulate, joined}
-use Rattle.questions.specs.Records.{head_of, body_of, start_of, institute_record, candidate_record}
+use Rattle.questions.specs.Records.{Head, head_of, body_of, start_of, institute_record, candidate_record}
 use Rattle.questions.specs.Steps.{step_width, receiver_in}
 
 -- a record with a body of fewer than 256 bytes
@@ -25,5 +24,5 @@ unfoldable pub as_lists : List ℕ → List ℕ
 as_lists file =
     let h : Head = head_of file in
     short_record (form_kind h.form 1) (list_head (body_of file 0))
-    ++ joined (tabulate h.m (λ j. short_record 7 (list_body h (body_of file (institute_record h j)))))
+    ++ joined (tabulate h.institutes (λ j. short_record 7 (list_body h (body_of file (institute_record h j)))))
     ++ drop (start_of file (candidate_record h 0)) file

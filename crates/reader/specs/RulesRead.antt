@@ -1,6 +1,6 @@
 -- The rules of an institute's body, as the table that its choice goes by.
 use Rattle.std.specs.Prelude.{ℕ, zero, suc, ◌+◌, ◌*◌, ◌≤◌, ◌<◌, ◌≡◌, List, get_or}
-use Rattle.questions.specs.declared.head.Head.{Head}
+use Rattle.questions.specs.Records.{Head}
 use Rattle.round.specs.Rules.{number_in, rules_in, RuleTable}
 use Rattle.questions.specs.Steps.{positions_in, reserved_in, step_code, receiver_in}
 use Rattle.questions.specs.Reading.{steps_in}

@@ -33,10 +33,10 @@ fn body_of<'a>(file: &'a [u8], starts: &[u32], k: usize) -> &'a [u8]
 // The body of candidate i's record in the file.
 fn candidate_body<'a>(file: &'a [u8], o: Opened, row: &[u8], starts: &[u32], i: usize) -> &'a [u8]
     requires opened_file { OpenedFile file.now o row.now starts.now }
-    requires i_lt_n { i < o.head.n }
-    ensures { result.now ≡ body_of file.now (1 + (o.head.m + i)) }
+    requires i_lt_candidates { i < o.head.candidates }
+    ensures { result.now ≡ body_of file.now (1 + (o.head.institutes + i)) }
 {
-    body_of(file, starts, o.head.m + i)
+    body_of(file, starts, o.head.institutes + i)
 }
 
 // A candidate's marks, the lowest bit for type 1.
@@ -44,7 +44,7 @@ pub fn candidate_marks(file: &[u8], o: Opened, row: &[u8], starts: &[u32], i: us
     ghost r: { Round }
     requires row_value { opened_round file.now o row.now ≡ r }
     requires opened_file { OpenedFile file.now o row.now starts.now }
-    requires i_lt_n { i < o.head.n }
+    requires i_lt_candidates { i < o.head.candidates }
     ensures { result ≡ (candidate_at r i).marks }
 {
     let body = candidate_body(file, o, row, starts, i);
@@ -56,7 +56,7 @@ pub fn row_length(file: &[u8], o: Opened, row: &[u8], starts: &[u32], i: usize) 
     ghost r: { Round }
     requires row_value { opened_round file.now o row.now ≡ r }
     requires opened_file { OpenedFile file.now o row.now starts.now }
-    requires i_lt_n { i < o.head.n }
+    requires i_lt_candidates { i < o.head.candidates }
     ensures { result ≡ length (candidate_at r i).row }
 {
     let h = o.head;
@@ -75,7 +75,7 @@ pub fn row_entry(file: &[u8], o: Opened, row: &[u8], starts: &[u32], i: usize, k
     ghost r: { Round }
     requires row_value { opened_round file.now o row.now ≡ r }
     requires opened_file { OpenedFile file.now o row.now starts.now }
-    requires i_lt_n { (i < o.head.n) × (k < length (candidate_at r i).row) }
+    requires i_lt_candidates { (i < o.head.candidates) × (k < length (candidate_at r i).row) }
     ensures { result ≡ entry_at (candidate_at r i) k }
 {
     let h = o.head;
@@ -92,10 +92,10 @@ pub fn row_entry(file: &[u8], o: Opened, row: &[u8], starts: &[u32], i: usize, k
 // The body of institute j's merit list in the file.
 fn merit_body<'a>(file: &'a [u8], o: Opened, row: &[u8], starts: &[u32], j: usize) -> &'a [u8]
     requires opened_file { OpenedFile file.now o row.now starts.now }
-    requires j_lt_m { j < o.head.m }
-    ensures { result.now ≡ body_of file.now (1 + (o.head.m + (o.head.n + j))) }
+    requires j_lt_institutes { j < o.head.institutes }
+    ensures { result.now ≡ body_of file.now (1 + (o.head.institutes + (o.head.candidates + j))) }
 {
-    body_of(file, starts, o.head.m + (o.head.n + j))
+    body_of(file, starts, o.head.institutes + (o.head.candidates + j))
 }
 
 // The length of an institute's merit list.
@@ -103,7 +103,7 @@ pub fn merit_length(file: &[u8], o: Opened, row: &[u8], starts: &[u32], j: usize
     ghost r: { Round }
     requires row_value { opened_round file.now o row.now ≡ r }
     requires opened_file { OpenedFile file.now o row.now starts.now }
-    requires j_lt_m { j < o.head.m }
+    requires j_lt_institutes { j < o.head.institutes }
     ensures { result ≡ length (institute_at r j).merit }
 {
     let body = merit_body(file, o, row, starts, j);
@@ -115,7 +115,7 @@ pub fn merit_place(file: &[u8], o: Opened, row: &[u8], starts: &[u32], j: usize,
     ghost r: { Round }
     requires row_value { opened_round file.now o row.now ≡ r }
     requires opened_file { OpenedFile file.now o row.now starts.now }
-    requires j_lt_m { (j < o.head.m) × (p < length (institute_at r j).merit) }
+    requires j_lt_institutes { (j < o.head.institutes) × (p < length (institute_at r j).merit) }
     ensures { result ≡ merit_at (institute_at r j) p }
 {
     let change = o.change;
@@ -134,7 +134,7 @@ pub fn institute_body<'a>(
     ghost r: { Round }
     requires row_value { opened_round file.now o row.now ≡ r }
     requires opened_file { OpenedFile file.now o row.now starts.now }
-    requires j_lt_m { j < o.head.m }
+    requires j_lt_institutes { j < o.head.institutes }
     ensures { StepsRead r o.head j result.now }
 {
     body_of(file, starts, j)
@@ -145,7 +145,7 @@ pub fn step_numbers(file: &[u8], o: Opened, row: &[u8], starts: &[u32], j: usize
     ghost r: { Round }
     requires row_value { opened_round file.now o row.now ≡ r }
     requires opened_file { OpenedFile file.now o row.now starts.now }
-    requires j_lt_m { j < o.head.m }
+    requires j_lt_institutes { j < o.head.institutes }
     ensures { result ≡ step_numbers r j }
 {
     let h = o.head;
@@ -168,7 +168,7 @@ pub fn step_category(
     ghost r: { Round }
     requires row_value { opened_round file.now o row.now ≡ r }
     requires opened_file { OpenedFile file.now o row.now starts.now }
-    requires j_lt_m { (j < o.head.m) × (1 ≤ step) × (step ≤ step_numbers r j) }
+    requires j_lt_institutes { (j < o.head.institutes) × (1 ≤ step) × (step ≤ step_numbers r j) }
     ensures { result ≡ (step_at (institute_at r j) (step - 1)).category }
 {
     let h = o.head;

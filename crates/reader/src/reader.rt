@@ -1,6 +1,6 @@
 // The reader of a round file: questions 1 to 13, 17 and 18.
 ghost use Rattle.std.specs.Prelude.{◌≡◌, ◌≤◌, length};
-ghost use Rattle.questions.specs.Read.{InRange};
+ghost use Rattle.questions.specs.Read.{as_head, InRange};
 ghost use Rattle.reader.specs.Outcome.{refusal_of, RestRead, RoundRead};
 ghost use Rattle.reader.specs.Calls.{refusal_in};
 
@@ -57,12 +57,12 @@ pub fn start_table() -> [u32; 2512]
 
 // The numbers that stand in for a head while none but the form is read.
 fn unread(form: Form) -> Head
-    ensures { InRange result × (result.form ≡ form) }
+    ensures { InRange (as_head result) × (result.form ≡ form) }
 {
     Head {
         form,
-        n: 1,
-        m: 1,
+        candidates: 1,
+        institutes: 1,
         types: 0,
         policy: 0,
     }
@@ -70,13 +70,13 @@ fn unread(form: Form) -> Head
 
 // The records after the head, and the end of the file.
 fn read_rest(file: &[u8], from: usize, h: Head, starts: &mut [u32]) -> Reading
-    requires in_range { InRange h }
+    requires in_range { InRange (as_head h) }
     requires from_in_bounds { (from ≤ length file.now) × (from ≤ 12) }
     requires in_bounds { 2512 ≤ length starts.old }
-    ensures { RestRead file.now h from result starts.new }
+    ensures { RestRead file.now (as_head h) from result starts.new }
 {
-    let n = h.n;
-    let m = h.m;
+    let n = h.candidates;
+    let m = h.institutes;
     let institutes = read_kind(file, from, h, 2, 0, m, starts);
     let Part::Lawful { end } = institutes else {
         return refusal_of(institutes);

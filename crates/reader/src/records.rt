@@ -2,7 +2,7 @@
 ghost use Rattle.std.specs.Prelude.{◌≡◌, true, ◌+◌, ◌*◌, ◌≤◌, length};
 ghost use Rattle.questions.specs.Records.{next_at};
 ghost use Rattle.questions.specs.Questions.{first_no, lead_questions, kind_questions, questions_at, row_allowed, institute_allowed, length_allowed};
-ghost use Rattle.questions.specs.Read.{InRange};
+ghost use Rattle.questions.specs.Read.{as_head, InRange};
 ghost use Rattle.reader.specs.Parts.{part_by, RunRead};
 
 use lists::word::{within, word};
@@ -41,8 +41,8 @@ fn row_allowed(form: Form, len: usize) -> bool
 
 // Whether an institute's body may have a length.
 pub fn institute_allowed(h: Head, len: usize) -> bool
-    requires { InRange h }
-    ensures { result ≡ institute_allowed h len }
+    requires { InRange (as_head h) }
+    ensures { result ≡ institute_allowed (as_head h) len }
 {
     if own_steps(h) {
         let width = step_width(h);
@@ -54,8 +54,8 @@ pub fn institute_allowed(h: Head, len: usize) -> bool
 
 // Whether the table allows a body length for a kind.
 fn length_allowed(h: Head, kind: usize, len: usize) -> bool
-    requires { InRange h }
-    ensures { result ≡ length_allowed h kind len }
+    requires { InRange (as_head h) }
+    ensures { result ≡ length_allowed (as_head h) kind len }
 {
     if kind == 1 {
         return len == 8;
@@ -67,7 +67,7 @@ fn length_allowed(h: Head, kind: usize, len: usize) -> bool
         let form = h.form;
         return row_allowed(form, len);
     }
-    if 2 * h.n < len {
+    if 2 * h.candidates < len {
         return false;
     }
     len % 2 == 0
@@ -75,9 +75,9 @@ fn length_allowed(h: Head, kind: usize, len: usize) -> bool
 
 // Questions 1 to 4 of the record due with a kind at a byte.
 fn find_record(file: &[u8], at: usize, h: Head, kind: usize) -> Part
-    requires in_range { InRange h }
+    requires in_range { InRange (as_head h) }
     requires at_in_bounds { at ≤ length file.now }
-    ensures { result ≡ part_by (first_no (lead_questions file.now h kind at)) at (next_at file.now at) }
+    ensures { result ≡ part_by (first_no (lead_questions file.now (as_head h) kind at)) at (next_at file.now at) }
 {
     if file.len() - at < 4 {
         return Part::Refused {
@@ -110,9 +110,9 @@ fn find_record(file: &[u8], at: usize, h: Head, kind: usize) -> Part
 
 // The number of the first question of a kind about a body whose answer is no, 0 where each is yes.
 fn ask_body(body: &[u8], h: Head, kind: usize) -> usize
-    requires in_range { InRange h }
-    requires body_value { length_allowed h kind (length body.now) ≡ true }
-    ensures { result ≡ first_no (kind_questions h kind body.now) }
+    requires in_range { InRange (as_head h) }
+    requires body_value { length_allowed (as_head h) kind (length body.now) ≡ true }
+    ensures { result ≡ first_no (kind_questions (as_head h) kind body.now) }
 {
     let form = h.form;
     match kind {
@@ -125,9 +125,9 @@ fn ask_body(body: &[u8], h: Head, kind: usize) -> usize
 
 // All questions of the record due with a kind at a byte.
 pub fn read_record(file: &[u8], at: usize, h: Head, kind: usize) -> Part
-    requires in_range { InRange h }
+    requires in_range { InRange (as_head h) }
     requires at_in_bounds { at ≤ length file.now }
-    ensures { result ≡ part_by (first_no (questions_at file.now h kind at)) at (next_at file.now at) }
+    ensures { result ≡ part_by (first_no (questions_at file.now (as_head h) kind at)) at (next_at file.now at) }
 {
     let got = find_record(file, at, h, kind);
     let Part::Lawful { end } = got else {
@@ -152,10 +152,10 @@ pub fn read_kind(
     count: usize,
     starts: &mut [u32],
 ) -> Part
-    requires in_range { InRange h }
+    requires in_range { InRange (as_head h) }
     requires from_in_bounds { (from ≤ length file.now) × (from ≤ 1028 * (1 + first)) }
     requires count_bound { (first + count ≤ 2512) × (2512 ≤ length starts.old) }
-    ensures { RunRead file.now h kind first count from starts.old result starts.new }
+    ensures { RunRead file.now (as_head h) kind first count from starts.old result starts.new }
 {
     let mut at = from;
     for i in 0..count {

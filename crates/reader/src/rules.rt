@@ -1,7 +1,7 @@
 // The rules of an institute's steps, as a table that its choice goes by.
 ghost use Rattle.std.specs.Prelude.{◌≡◌, ◌+◌, ◌*◌, ◌≤◌, ◌<◌, length};
 ghost use Rattle.questions.specs.Steps.{step_count};
-ghost use Rattle.questions.specs.Read.{InstituteBody, LawfulSteps};
+ghost use Rattle.questions.specs.Read.{as_head, InstituteBody, LawfulSteps};
 ghost use Rattle.reader.specs.RulesRead.{rule_numbers, RuleWritten, RulesRead};
 
 use questions::head::Head;
@@ -16,9 +16,9 @@ pub fn rule_table() -> [usize; 132]
 
 // Writes the row of step k, from 0.
 fn write_rule(body: &[u8], h: Head, k: usize, table: &mut [usize])
-    requires institute_body { InstituteBody h body.now }
-    requires k_bound { (k < step_count h body.now) × (k * (3 + h.types) + (3 + h.types) ≤ length table.old) }
-    ensures { RuleWritten h.types k (rule_numbers h body.now k) table.old table.new }
+    requires institute_body { InstituteBody (as_head h) body.now }
+    requires k_bound { (k < step_count (as_head h) body.now) × (k * (3 + h.types) + (3 + h.types) ≤ length table.old) }
+    ensures { RuleWritten h.types k (rule_numbers (as_head h) body.now k) table.old table.new }
 {
     let at = k * (3 + h.types);
     table[at] = step_code(body, h, k);
@@ -42,9 +42,9 @@ fn write_dereserved(types: usize, table: &mut [usize])
 
 // Writes the rules of an institute's body, and returns how many steps there are.
 pub fn rules_of(body: &[u8], h: Head, table: &mut [usize]) -> usize
-    requires lawful_steps { LawfulSteps h body.now }
+    requires lawful_steps { LawfulSteps (as_head h) body.now }
     requires in_bounds { 132 ≤ length table.old }
-    ensures { RulesRead h body.now table.new result }
+    ensures { RulesRead (as_head h) body.now table.new result }
 {
     let count = step_count(body, h);
     for k in 0..count {

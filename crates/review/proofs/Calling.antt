@@ -6,12 +6,11 @@ use mathlib.Core.List.{List, ◌++◌}
 use native.Mathlib.Omega.{arith}
 use lib.ListN.{length, drop, replicate}
 use borrow.Author.Tests.{eq-eqb, ne_eqb, le-leb, lt-leb}
-use Rattle.questions.specs.declared.head.Head.{Head}
 use Rattle.questions.specs.declared.form.Form.{Form}
 use Rattle.reader.specs.declared.opened.Opened.{Opened}
 use Rattle.questions.specs.Form.{seat_width}
 use Rattle.round.specs.Round.{Round}
-use Rattle.questions.specs.Records.{form_of}
+use Rattle.questions.specs.Records.{Head, form_of}
 use Rattle.questions.specs.Reading.{round_of}
 use Rattle.questions.specs.Refusal as verdicts
 use Rattle.questions.specs.Refusal.{verdict}
@@ -33,7 +32,7 @@ module _ {file : List ℕ} {o : Opened} {row starts : List ℕ} (hand : OpenedFi
   abbrev r : Round
   r = opened_round file o row
 
-  module _ {size : ℕ} (due : size ≡ seat_width o.head.form * o.head.n) (list : List ℕ) where
+  module _ {size : ℕ} (due : size ≡ seat_width o.head.form * o.head.candidates) (list : List ℕ) where
     size_due : size ≡ list_size o.head.form r
     size_due = due ∙ ap (λ (n : ℕ). seat_width o.head.form * n) (sym (candidates_many hand))
 
@@ -44,15 +43,15 @@ module _ {file : List ℕ} {o : Opened} {row starts : List ℕ} (hand : OpenedFi
       pub under_review : UnderReview file o row starts list
       under_review = record { hand = hand; size = same ∙ due }
 
-      pub work_small : (work : List ℕ) → length work < 8 * o.head.n → Called o.head.form r list work (Refused 14 0) work
+      pub work_small : (work : List ℕ) → length work < 8 * o.head.candidates → Called o.head.form r list work (Refused 14 0) work
       work_small work l = record {
         answered = rw (eq-eqb (length list) (list_size o.head.form r) (same ∙ size_due), lt-leb (work_size r) (length work) (omega (arith, candidates_many hand)));
         work_area = refl;
       }
 
-      pub all_well : (work : List ℕ) {workNow : List ℕ} {result : Judgement} → 8 * o.head.n ≤ length work
+      pub all_well : (work : List ℕ) {workNow : List ℕ} {result : Judgement} → 8 * o.head.candidates ≤ length work
           → outcome_of result ≡ said (finding r (list_of o.head.form r list))
-          → workNow ≡ replicate (8 * o.head.n) 0 ++ drop (8 * o.head.n) work → Called o.head.form r list work result workNow
+          → workNow ≡ replicate (8 * o.head.candidates) 0 ++ drop (8 * o.head.candidates) work → Called o.head.form r list work result workNow
       all_well work l told cleared = record {
         answered = told ∙ rw (eq-eqb (length list) (list_size o.head.form r) (same ∙ size_due), le-leb (work_size r) (length work) (omega (arith, candidates_many hand)));
         work_area = work_by_lem r work told (candidates_many hand) cleared;

@@ -40,7 +40,7 @@ takes_at r seats i k = would_take r seats i (entry_at (candidate_at r i) k)
 
 -- of the entry at place k of candidate i's row, as the code has read it
 module _ {file : List ℕ} {o : Opened} {row starts : List ℕ} (hand : OpenedFile file o row starts) {r : Round} (opens : opened_round file o row ≡ r)
-    {i k : ℕ} {entry : Entry} (inside : i < o.head.n) (within : k < length (row_at r i)) (reads : entry ≡ entry_at (candidate_at r i) k) where
+    {i k : ℕ} {entry : Entry} (inside : i < o.head.candidates) (within : k < length (row_at r i)) (reads : entry ≡ entry_at (candidate_at r i) k) where
   sound_row : SoundRow (institute_count r) (candidate_at r i).category (row_at r i)
   sound_row = ((round_sound hand opens).candidate i (omega (arith, candidates_many hand opens))).row_sound
 
@@ -50,7 +50,7 @@ module _ {file : List ℕ} {o : Opened} {row starts : List ℕ} (hand : OpenedFi
   institute_most : entry.institute ≤ institute_count r
   institute_most = rw reads (sound_row.entry_to k within)
 
-  pub institute_inside : entry.institute - 1 < o.head.m
+  pub institute_inside : entry.institute - 1 < o.head.institutes
   institute_inside = omega (arith, institute_least, institute_most, institutes_many hand opens)
 
   -- the step that is given where it is added has a number

@@ -33,7 +33,7 @@ fn find(
     ghost r: { Round }
     requires row_value { opened_round file.now o row.now ≡ r }
     requires under_review { UnderReview file.now o row.now starts.now list.now }
-    requires asked_value { (asked.old ≡ replicate o.head.n 0) × (length wanted.old ≡ o.head.n) × (steps.old ≡ replicate o.head.n 0) }
+    requires asked_value { (asked.old ≡ replicate o.head.candidates 0) × (length wanted.old ≡ o.head.candidates) × (steps.old ≡ replicate o.head.candidates 0) }
     ensures { outcome_of result ≡ said (finding r (list_of o.head.form r list.now)) }
 {
     read_seats(file, o, row, starts, list, asked, wanted);
@@ -41,7 +41,7 @@ fn find(
     let h = o.head;
     let form = h.form;
     let i = first_wrong(list, form, asked, steps);
-    if i < h.n {
+    if i < h.candidates {
         return Judgement::WrongSeat { candidate: i + 1 };
     }
     find_entry(file, o, row, starts, list, asked, wanted, steps)
@@ -62,7 +62,7 @@ fn review_round(
     ensures { Called o.head.form r list.now work.old result work.new }
 {
     let h = o.head;
-    let n = h.n;
+    let n = h.candidates;
     let form = h.form;
     if list.len() != seats_size(form, n) {
         return Judgement::Refused {

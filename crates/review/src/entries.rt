@@ -57,8 +57,8 @@ fn step_anew(
     ghost r: { Round }
     requires row_value { opened_round file.now o row.now ≡ r }
     requires opened_file { OpenedFile file.now o row.now starts.now }
-    requires i_lt_n { (i < o.head.n) × (j < o.head.m) }
-    requires asked_len { (length asked.now ≡ o.head.n) × (length wanted.now ≡ o.head.n) × (length steps.old ≡ o.head.n) }
+    requires i_lt_candidates { (i < o.head.candidates) × (j < o.head.institutes) }
+    requires asked_len { (length asked.now ≡ o.head.candidates) × (length wanted.now ≡ o.head.candidates) × (length steps.old ≡ o.head.candidates) }
     ensures { result ≡ step_for r j (offers_by (offer_to (suc j) asked.now wanted.now)) i }
 {
     steps[i] = 0;
@@ -82,8 +82,8 @@ fn step_with(
     ghost r: { Round }
     requires row_value { opened_round file.now o row.now ≡ r }
     requires opened_file { OpenedFile file.now o row.now starts.now }
-    requires i_lt_n { (i < o.head.n) × (j < o.head.m) }
-    requires asked_len { (length asked.old ≡ o.head.n) × (length wanted.old ≡ o.head.n) × (length steps.old ≡ o.head.n) }
+    requires i_lt_candidates { (i < o.head.candidates) × (j < o.head.institutes) }
+    requires asked_len { (length asked.old ≡ o.head.candidates) × (length wanted.old ≡ o.head.candidates) × (length steps.old ≡ o.head.candidates) }
     ensures { (result ≡ step_for r j (offers_with j i category asked.old wanted.old) i)
         × (asked.new ≡ asked.old) × (wanted.new ≡ wanted.old) }
 {
@@ -108,7 +108,7 @@ fn takes(
     ghost r: { Round }
     requires row_value { opened_round file.now o row.now ≡ r }
     requires opened_file { OpenedFile file.now o row.now starts.now }
-    requires j_lt_m { (j < o.head.m) × (step ≤ step_numbers r j) }
+    requires j_lt_institutes { (j < o.head.institutes) × (step ≤ step_numbers r j) }
     ensures { result ≡ (not (eqb step 0) && same_category (category_at r j step) category) }
 {
     if step == 0 {
@@ -134,7 +134,7 @@ fn would_take(
     requires row_value { opened_round file.now o row.now ≡ r }
     requires under_review { UnderReview file.now o row.now starts.now list.now }
     requires all_read { AllRead r o.head.form list.now asked.old wanted.old }
-    requires i_lt_n { (i < o.head.n) × (k < length (row_at r i)) × (length steps.old ≡ o.head.n) }
+    requires i_lt_candidates { (i < o.head.candidates) × (k < length (row_at r i)) × (length steps.old ≡ o.head.candidates) }
     ensures { (result ≡ would_take r (list_of o.head.form r list.now) i (entry_at (candidate_at r i) k))
         × (asked.new ≡ asked.old) × (wanted.new ≡ wanted.old) }
 {
@@ -181,7 +181,7 @@ fn best_entry(
     requires row_value { opened_round file.now o row.now ≡ r }
     requires under_review { UnderReview file.now o row.now starts.now list.now }
     requires all_read { AllRead r o.head.form list.now asked.old wanted.old }
-    requires i_lt_n { (i < o.head.n) × (above ≤ length (row_at r i)) × (length steps.old ≡ o.head.n) }
+    requires i_lt_candidates { (i < o.head.candidates) × (above ≤ length (row_at r i)) × (length steps.old ≡ o.head.candidates) }
     ensures { (result ≡ first_of above (λ k. would_take r (list_of o.head.form r list.now) i (entry_at (candidate_at r i) k)))
         × (asked.new ≡ asked.old) × (wanted.new ≡ wanted.old) }
 {
@@ -208,10 +208,10 @@ pub fn find_entry(
     requires row_value { opened_round file.now o row.now ≡ r }
     requires under_review { UnderReview file.now o row.now starts.now list.now }
     requires all_read { AllRead r o.head.form list.now asked.old wanted.old }
-    requires steps_len { length steps.old ≡ o.head.n }
+    requires steps_len { length steps.old ≡ o.head.candidates }
     ensures { outcome_of result ≡ said (entry_finding r (list_of o.head.form r list.now)) }
 {
-    for i in 0..o.head.n {
+    for i in 0..o.head.candidates {
         let above = entries_above(file, o, row, starts, list, i);
         let k = best_entry(file, o, row, starts, list, asked, wanted, steps, i, above);
         if k < above {

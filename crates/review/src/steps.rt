@@ -32,7 +32,7 @@ pub fn give_steps(
     ghost r: { Round }
     requires row_value { opened_round file.now o row.now ≡ r }
     requires opened_file { OpenedFile file.now o row.now starts.now }
-    requires asked_len { (length asked.now ≡ o.head.n) × (length wanted.now ≡ o.head.n) × (steps.old ≡ replicate o.head.n 0) }
+    requires asked_len { (length asked.now ≡ o.head.candidates) × (length wanted.now ≡ o.head.candidates) × (steps.old ≡ replicate o.head.candidates 0) }
     ensures { StepsGiven r asked.now wanted.now steps.new }
 {
     let mut every = every_institute();

@@ -25,7 +25,7 @@ rules_in types steps table = tabulate steps (rule_in types table)
 pub record RuleTable (types steps : ℕ) (table : List ℕ) : Type 0 where
   pub types_most : types ≤ 8
   pub steps_most : steps ≤ 12
-  pub room : steps * (3 + types) ≤ length table
+  pub long : steps * (3 + types) ≤ length table
   pub coded : (k : ℕ) → k < steps → number_in types table k 0 < 5
   pub handed_on : (k : ℕ) → k < steps → number_in types table k 1 ≤ 12
   pub own_most : (k : ℕ) → k < steps → number_in types table k 2 ≤ 65535

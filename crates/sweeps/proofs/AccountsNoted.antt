@@ -43,15 +43,15 @@ use Rattle.sweeps.proofs.Lasts.{holds_only, holds_none, only_some, no_part}
 
 -- the notes have a place for each candidate
 module _ {file : List ℕ} {o : Opened} {row starts : List ℕ} (hand : OpenedFile file o row starts) where
-  pub types_each : {k : ℕ} {holders types : List ℕ} → TypesNoted (opened_round file o row) k holders types → length types ≡ o.head.n
+  pub types_each : {k : ℕ} {holders types : List ℕ} → TypesNoted (opened_round file o row) k holders types → length types ≡ o.head.candidates
   types_each noted = noted.many ∙ candidates_many hand
 
   -- before any institute has chosen nobody has a type
-  pub none_noted : {holders types : List ℕ} → types ≡ replicate o.head.n 0 → TypesNoted (opened_round file o row) 0 holders types
+  pub none_noted : {holders types : List ℕ} → types ≡ replicate o.head.candidates 0 → TypesNoted (opened_round file o row) 0 holders types
   none_noted e = record {
     many = sized _ e ∙ sym (candidates_many hand);
     noted = λ i j hi l. absurd (omega arith);
-    others = λ i hi none. ap (λ (t : List ℕ). get_or t i 0) e ∙ get_or_zeros o.head.n i;
+    others = λ i hi none. ap (λ (t : List ℕ). get_or t i 0) e ∙ get_or_zeros o.head.candidates i;
   }
 
 -- two arrays hold the list of the round
@@ -108,12 +108,12 @@ module _ {file : List ℕ} {o : Opened} {row starts : List ℕ} (hand : OpenedFi
     type_same i j hj = ap (λ (account : List StepAccount). type_in account (place_on r j i)) (account_same j hj)
 
     -- and so are its numbers
-    pub numbers_same : {k : ℕ} {types types' noted : List ℕ} → k < o.head.m → AccountedAnew (opened_round file o row) k holders wanted types types' noted
+    pub numbers_same : {k : ℕ} {types types' noted : List ℕ} → k < o.head.institutes → AccountedAnew (opened_round file o row) k holders wanted types types' noted
         → noted ≡ noted_of (account_at_end (opened_round file o row) k)
     numbers_same {k} l all = all.numbers ∙ ap noted_of (account_same k (omega (arith, institutes_many hand)))
 
     -- one institute more
-    pub one_noted : {k : ℕ} {types types' noted : List ℕ} → k < o.head.m → TypesNoted (opened_round file o row) k holders types
+    pub one_noted : {k : ℕ} {types types' noted : List ℕ} → k < o.head.institutes → TypesNoted (opened_round file o row) k holders types
         → AccountedAnew (opened_round file o row) k holders wanted types types' noted → TypesNoted (opened_round file o row) (k + 1) holders types'
     one_noted {k} l u all = let a = all.typed in record {
       many = a.many ∙ u.many;
@@ -132,7 +132,7 @@ module _ {file : List ℕ} {o : Opened} {row starts : List ℕ} (hand : OpenedFi
 module _ {file : List ℕ} {o : Opened} {row starts : List ℕ} (hand : OpenedFile file o row starts)
     {holders steps : List ℕ} (list : HeldIn (seats (opened_round file o row)) holders steps) where
   -- every institute has chosen, and the types are those of the round
-  pub all_noted : {k : ℕ} {types : List ℕ} → k ≡ o.head.m → TypesNoted (opened_round file o row) k holders types → types ≡ types_used (opened_round file o row)
+  pub all_noted : {k : ℕ} {types : List ℕ} → k ≡ o.head.institutes → TypesNoted (opened_round file o row) k holders types → types ≡ types_used (opened_round file o row)
   unfolding seats
   all_noted {k} {types} e u =
       ext_get_or 0 types (types_used (opened_round file o row)) (u.many ∙ sym (types_length (opened_round file o row)))

@@ -166,7 +166,7 @@ module _ (r : Round) (j : ℕ) {types : ℕ} (sound : SoundInstitute (candidate_
     }
 
 -- the offers to an institute are listed, in tables that had room for every candidate
-module _ {file : List ℕ} {o : Opened} {row starts : List ℕ} (hand : OpenedFile file o row starts) {j : ℕ} (inside : j < o.head.m) (asked wanted : List ℕ)
+module _ {file : List ℕ} {o : Opened} {row starts : List ℕ} (hand : OpenedFile file o row starts) {j : ℕ} (inside : j < o.head.institutes) (asked wanted : List ℕ)
     {first : Bool} {who marks offers places : List ℕ} {k : ℕ}
     (g : Gathered (opened_round file o row) j (offer_to (suc j) asked wanted) first (merit_length (opened_round file o row) j) who marks offers places k) where
   pub listed_few : k ≤ 512

@@ -110,9 +110,9 @@ module _ {file : List ℕ} {h : Opened} {row starts : List ℕ} (hand : OpenedFi
   abbrev sound : Sound h.head.types (opened_round file h row)
   sound = round_sound hand
 
-  pub going_start : {state asked wanted steps : List ℕ} → state ≡ replicate h.head.n 0 → asked ≡ replicate h.head.n 0
-      → steps ≡ replicate h.head.n 0 → length wanted ≡ h.head.n → Going (opened_round file h row) state asked wanted steps 0
-  going_start et ea es many = rw (et, ea, es) (none_going (opened_round file h row) h.head.n (candidates_many hand) many)
+  pub going_start : {state asked wanted steps : List ℕ} → state ≡ replicate h.head.candidates 0 → asked ≡ replicate h.head.candidates 0
+      → steps ≡ replicate h.head.candidates 0 → length wanted ≡ h.head.candidates → Going (opened_round file h row) state asked wanted steps 0
+  going_start et ea es many = rw (et, ea, es) (none_going (opened_round file h row) h.head.candidates (candidates_many hand) many)
 
   -- the entries are few
   entries_few : entry_total (opened_round file h row) ≤ 8192
@@ -274,7 +274,7 @@ module _ {file : List ℕ} {h : Opened} {row starts : List ℕ} (hand : OpenedFi
           rw f (step_before i hi j hj e ∙ step_absent r j (made_to r state j) i off ∙ sym (step_absent r j (made_to r state' j) i off))))
 
       -- and each institute that got an offer has chosen
-      pub going_next : {steps' : List ℕ} → ChosenAll (opened_round file h row) asked' wanted' fresh h.head.m steps steps'
+      pub going_next : {steps' : List ℕ} → ChosenAll (opened_round file h row) asked' wanted' fresh h.head.institutes steps steps'
           → Going (opened_round file h row) state' asked' wanted' steps' (made + more)
       going_next {steps'} c' = let c : ChosenAll r asked' wanted' fresh (institute_count r) steps steps' = rw (institutes_many hand) c' in record {
         running = swept.run;

@@ -53,7 +53,7 @@ set_keeps l a b d z = elim (ℕ_discrete b a) [
 ]
 
 -- the best untried entry of a candidate, as the code has read it
-module _ {file : List ℕ} {o : Opened} {row starts : List ℕ} (hand : OpenedFile file o row starts) {i : ℕ} (below : i < o.head.n) (tried : List ℕ) (more : get_or tried i 0 < length (row_at (opened_round file o row) i)) where
+module _ {file : List ℕ} {o : Opened} {row starts : List ℕ} (hand : OpenedFile file o row starts) {i : ℕ} (below : i < o.head.candidates) (tried : List ℕ) (more : get_or tried i 0 < length (row_at (opened_round file o row) i)) where
   entries : SoundRow (length (opened_round file o row).institutes) (candidate_at (opened_round file o row) i).category (row_at (opened_round file o row) i)
   entries = ((round_sound hand).candidate i (omega (arith, candidates_many hand))).row_sound
 

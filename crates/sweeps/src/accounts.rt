@@ -27,8 +27,8 @@ pub fn account_anew(
     ghost r: { Round }
     requires row_value { opened_round file.now o row.now ≡ r }
     requires opened_file { OpenedFile file.now o row.now starts.now }
-    requires j_lt_m { j < o.head.m }
-    requires holders_len { (length holders.now ≡ o.head.n) × (length wanted.now ≡ o.head.n) × (length types.old ≡ o.head.n) }
+    requires j_lt_institutes { j < o.head.institutes }
+    requires holders_len { (length holders.now ≡ o.head.candidates) × (length wanted.now ≡ o.head.candidates) × (length types.old ≡ o.head.candidates) }
     requires noted_value { noted.old ≡ replicate 60 0 }
     ensures { AccountedAnew r j holders.now wanted.now
         types.old types.new noted.new }

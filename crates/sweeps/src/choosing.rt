@@ -34,8 +34,8 @@ pub fn choose_listed(
     ghost r: { Round }
     requires row_value { opened_round file.now o row.now ≡ r }
     requires opened_file { OpenedFile file.now o row.now starts.now }
-    requires j_lt_m { j < o.head.m }
-    requires asked_len { (length asked.now ≡ o.head.n) × (length wanted.now ≡ o.head.n) }
+    requires j_lt_institutes { j < o.head.institutes }
+    requires asked_len { (length asked.now ≡ o.head.candidates) × (length wanted.now ≡ o.head.candidates) }
     requires in_bounds { (512 ≤ length who.old) × (512 ≤ length chosen.old) × (512 ≤ length used.old) }
     requires in_bounds_2 { (first ≡ true → 512 ≤ length places.old) × (first ≡ true → noted.old ≡ replicate 60 0) }
     ensures { ChosenListed r j (offer_to (suc j) asked.now wanted.now)
@@ -89,8 +89,8 @@ pub fn choose_anew(
     ghost r: { Round }
     requires row_value { opened_round file.now o row.now ≡ r }
     requires opened_file { OpenedFile file.now o row.now starts.now }
-    requires j_lt_m { j < o.head.m }
-    requires asked_len { (length asked.now ≡ o.head.n) × (length wanted.now ≡ o.head.n) × (length steps.old ≡ o.head.n) }
+    requires j_lt_institutes { j < o.head.institutes }
+    requires asked_len { (length asked.now ≡ o.head.candidates) × (length wanted.now ≡ o.head.candidates) × (length steps.old ≡ o.head.candidates) }
     ensures { ChosenAnew r j asked.now wanted.now
         steps.old steps.new }
 {
@@ -131,13 +131,13 @@ pub fn choose_all(
     ghost r: { Round }
     requires row_value { opened_round file.now o row.now ≡ r }
     requires opened_file { OpenedFile file.now o row.now starts.now }
-    requires asked_len { (length asked.now ≡ o.head.n) × (length wanted.now ≡ o.head.n) × (length steps.old ≡ o.head.n)
+    requires asked_len { (length asked.now ≡ o.head.candidates) × (length wanted.now ≡ o.head.candidates) × (length steps.old ≡ o.head.candidates)
         × (length fresh.old ≡ 1000) }
-    ensures { ChosenAll r asked.now wanted.now fresh.old o.head.m
+    ensures { ChosenAll r asked.now wanted.now fresh.old o.head.institutes
         steps.old steps.new
         × (length fresh.new ≡ 1000) }
 {
-    for j in 0..o.head.m {
+    for j in 0..o.head.institutes {
         if fresh[j] != 0 {
             fresh[j] = 0;
             choose_anew(file, o, row, starts, j, asked, wanted, steps);

@@ -50,8 +50,8 @@ pub fn gather(
     ghost r: { Round }
     requires row_value { opened_round file.now o row.now ≡ r }
     requires opened_file { OpenedFile file.now o row.now starts.now }
-    requires j_lt_m { j < o.head.m }
-    requires asked_len { (length asked.now ≡ o.head.n) × (length wanted.now ≡ o.head.n) }
+    requires j_lt_institutes { j < o.head.institutes }
+    requires asked_len { (length asked.now ≡ o.head.candidates) × (length wanted.now ≡ o.head.candidates) }
     requires in_bounds { (512 ≤ length who.old) × (512 ≤ length marks.old) × (512 ≤ length offers.old) × (placed ≡ true → 512 ≤ length places.old) }
     ensures { Gathered r j
         (offer_to (suc j) asked.now wanted.now)

@@ -23,7 +23,7 @@ fn may_try(
     ghost r: { Round }
     requires row_value { opened_round file.now o row.now ≡ r }
     requires opened_file { OpenedFile file.now o row.now starts.now }
-    requires i_lt_n { i < o.head.n }
+    requires i_lt_candidates { i < o.head.candidates }
     requires i_in_bounds { (i < length tried.now) × (i < length steps.now) }
     ensures { result ≡ may_try r tried.now steps.now i }
 {
@@ -48,7 +48,7 @@ fn offer_next(
     ghost r: { Round }
     requires row_value { opened_round file.now o row.now ≡ r }
     requires opened_file { OpenedFile file.now o row.now starts.now }
-    requires i_lt_n { i < o.head.n }
+    requires i_lt_candidates { i < o.head.candidates }
     requires i_in_bounds { get_or tried.old i 0 < length (row_at r i) }
     requires i_in_bounds_2 { (i < length tried.old) × (i < length asked.old) × (i < length wanted.old)
         × (length fresh.old ≡ 1000) }
@@ -80,10 +80,10 @@ pub fn offer_all(
     ghost r: { Round }
     requires row_value { opened_round file.now o row.now ≡ r }
     requires opened_file { OpenedFile file.now o row.now starts.now }
-    requires steps_len { (length steps.now ≡ o.head.n)
-        × (length tried.old ≡ o.head.n)
-        × (length asked.old ≡ o.head.n)
-        × (length wanted.old ≡ o.head.n)
+    requires steps_len { (length steps.now ≡ o.head.candidates)
+        × (length tried.old ≡ o.head.candidates)
+        × (length asked.old ≡ o.head.candidates)
+        × (length wanted.old ≡ o.head.candidates)
         × (length fresh.old ≡ 1000) }
     ensures { OffersMade r steps.now
         tried.old asked.old wanted.old

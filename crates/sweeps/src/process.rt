@@ -30,13 +30,13 @@ fn sweep_all(
     ghost r: { Round }
     requires row_value { opened_round file.now o row.now ≡ r }
     requires opened_file { OpenedFile file.now o row.now starts.now }
-    requires tried_value { (tried.old ≡ replicate o.head.n 0)
-        × (asked.old ≡ replicate o.head.n 0)
-        × (steps.old ≡ replicate o.head.n 0)
-        × (length wanted.old ≡ o.head.n) }
+    requires tried_value { (tried.old ≡ replicate o.head.candidates 0)
+        × (asked.old ≡ replicate o.head.candidates 0)
+        × (steps.old ≡ replicate o.head.candidates 0)
+        × (length wanted.old ≡ o.head.candidates) }
     ensures { (result ≡ offers_made r)
-        × (length asked.new ≡ o.head.n)
-        × (length steps.new ≡ o.head.n)
+        × (length asked.new ≡ o.head.candidates)
+        × (length steps.new ≡ o.head.candidates)
         × HeldIn (seats r) (settled asked.new steps.new) steps.new }
 {
     let mut fresh = none_fresh();
@@ -78,11 +78,11 @@ pub fn run_offers(
     ghost r: { Round }
     requires row_value { opened_round file.now o row.now ≡ r }
     requires opened_file { OpenedFile file.now o row.now starts.now }
-    requires holders_value { (holders.old ≡ replicate o.head.n 0) × (steps.old ≡ replicate o.head.n 0) }
+    requires holders_value { (holders.old ≡ replicate o.head.candidates 0) × (steps.old ≡ replicate o.head.candidates 0) }
     ensures { (result ≡ offers_made r)
         × HeldIn (seats r) holders.new steps.new }
 {
-    let n = o.head.n;
+    let n = o.head.candidates;
     let mut tried = zeros();
     let mut wanted = zeros();
     let count = sweep_all(

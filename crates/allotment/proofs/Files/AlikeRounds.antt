@@ -6,8 +6,7 @@ use mathlib.Core.List.{List}
 use native.Mathlib.Omega.{arith}
 use lib.ListN.{get_or}
 use lib.Seq.{get_or-take, ext_get_or}
-use Rattle.questions.specs.declared.head.Head.{Head}
-use Rattle.questions.specs.Records.{head_in, head_of, start_of, body_of, institute_record, candidate_record, merit_record, record_count}
+use Rattle.questions.specs.Records.{Head, head_in, head_of, start_of, body_of, institute_record, candidate_record, merit_record, record_count}
 use Rattle.questions.specs.Reading.{candidate_in, institute_from, round_of}
 use Rattle.round.specs.Places.{candidate_at, institute_at, no_institute}
 use Rattle.reader.proofs.Sound.{candidate_at_lem, institute_at_lem, length_candidates, length_institutes}
@@ -25,13 +24,13 @@ module _ (file other : List ℕ) (i : ℕ) (alike : Alike file other i) where
   same_head =
       ap₂ head_in (same_form file other (alike.records 0 (omega arith) (λ e. omega arith))) (bodies 0 (omega arith) (λ e. omega arith))
 
-  other_institute : (j : ℕ) → j < (head_of file).m
+  other_institute : (j : ℕ) → j < (head_of file).institutes
       → institute_at (round_of other) j ≡ institute_from (head_of file) (body_of other (institute_record (head_of file) j)) (body_of other (merit_record (head_of file) j))
   other_institute =
-      subst⁻¹ (λ (h : Head). (j : ℕ) → j < h.m → institute_at (round_of other) j ≡ institute_from h (body_of other (institute_record h j)) (body_of other (merit_record h j)))
+      subst⁻¹ (λ (h : Head). (j : ℕ) → j < h.institutes → institute_at (round_of other) j ≡ institute_from h (body_of other (institute_record h j)) (body_of other (merit_record h j)))
       same_head (institute_at_lem other)
 
-  institute_same : (j : ℕ) → j < (head_of file).m → institute_at (round_of file) j ≡ institute_at (round_of other) j
+  institute_same : (j : ℕ) → j < (head_of file).institutes → institute_at (round_of file) j ≡ institute_at (round_of other) j
   institute_same j l =
       let h : Head = head_of file in
       let own : body_of file (institute_record h j) ≡ body_of other (institute_record h j) = bodies (institute_record h j) (omega arith) (λ e. omega arith) in
@@ -43,24 +42,24 @@ module _ (file other : List ℕ) (i : ℕ) (alike : Alike file other i) where
   same_institutes : (round_of file).institutes ≡ (round_of other).institutes
   same_institutes =
       ext_get_or no_institute _ _
-      (length_institutes file ∙ (ap (λ (h : Head). h.m) same_head ∙ sym (length_institutes other)))
+      (length_institutes file ∙ (ap (λ (h : Head). h.institutes) same_head ∙ sym (length_institutes other)))
       (λ j l. institute_same j (omega (arith, length_institutes file)))
 
   pub same_count : candidate_count (round_of file) ≡ candidate_count (round_of other)
-  same_count = length_candidates file ∙ (ap (λ (h : Head). h.n) same_head ∙ sym (length_candidates other))
+  same_count = length_candidates file ∙ (ap (λ (h : Head). h.candidates) same_head ∙ sym (length_candidates other))
 
   -- the candidate whose row may differ is one of the round
   pub inside : i < candidate_count (round_of file)
   inside = rw (length_candidates file) alike.candidate
 
-  other_candidate : (k : ℕ) → k < (head_of file).n → candidate_at (round_of other) k ≡ candidate_in (head_of file).form (body_of other (candidate_record (head_of file) k))
+  other_candidate : (k : ℕ) → k < (head_of file).candidates → candidate_at (round_of other) k ≡ candidate_in (head_of file).form (body_of other (candidate_record (head_of file) k))
   other_candidate =
-      subst⁻¹ (λ (h : Head). (k : ℕ) → k < h.n → candidate_at (round_of other) k ≡ candidate_in h.form (body_of other (candidate_record h k)))
+      subst⁻¹ (λ (h : Head). (k : ℕ) → k < h.candidates → candidate_at (round_of other) k ≡ candidate_in h.form (body_of other (candidate_record h k)))
       same_head (candidate_at_lem other)
 
   same_candidate : (k : ℕ) → k < candidate_count (round_of file) → k ≢ i → candidate_at (round_of file) k ≡ candidate_at (round_of other) k
   same_candidate k l d =
-      let m : k < (head_of file).n = omega (arith, length_candidates file) in
+      let m : k < (head_of file).candidates = omega (arith, length_candidates file) in
       candidate_at_lem file k m
       ∙ (ap (candidate_in (head_of file).form) (bodies (candidate_record (head_of file) k) (omega arith) (λ e. d (omega arith))) ∙ sym (other_candidate k m))
 

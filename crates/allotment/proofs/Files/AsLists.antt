@@ -7,11 +7,10 @@ use native.Mathlib.Omega.{arith}
 use native.Mathlib.Decide.{dec_lt}
 use borrow.Author.Tests.{ne_eqb}
 use lib.ListN.{length, replicate, get_or-eq_default}
-use Rattle.questions.specs.declared.head.Head.{Head}
 use Rattle.round.specs.declared.entry.Category.{Category}
 use Rattle.lists.specs.Lists.{tabulate, greatest_of}
 use Rattle.round.specs.Round.{StepRule, Round}
-use Rattle.questions.specs.Records.{head_of, own_steps}
+use Rattle.questions.specs.Records.{Head, head_of, own_steps}
 use Rattle.questions.specs.Refusal.{passes, verdict}
 use Rattle.questions.specs.Reading.{round_of}
 use Rattle.round.specs.Places.{institute_at, no_institute}

@@ -55,7 +55,7 @@ overflow_add-placed g c =
     omega (
       arith,
       c.seats_size-closings.ensures,
-      seats_most c.args.o.head.form c.args.o.head.n (candidates_few hand),
+      seats_most c.args.o.head.form c.args.o.head.candidates (candidates_few hand),
       closings_few _ c.closing_width.ensures (institutes_few hand),
     )
 

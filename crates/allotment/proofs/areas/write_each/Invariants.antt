@@ -12,7 +12,7 @@ use Rattle.allotment.specs.Areas.{closing_width, closing_bytes}
 use Rattle.allotment.proofs.areas.write_each.Given as goal
 
 abbrev pub invariant-loop-j : goal.invariant-loop-j
-invariant-loop-j g l = (l.j ≤ l.j-end) × (l.j-end ≡ l.o.head.m) × (l.j-end ≤ 1000) × OpenedFile l.file l.o l.row l.starts
+invariant-loop-j g l = (l.j ≤ l.j-end) × (l.j-end ≡ l.o.head.institutes) × (l.j-end ≤ 1000) × OpenedFile l.file l.o l.row l.starts
     × HeldIn (seats (opened_round l.file l.o l.row)) l.holders l.steps × SeatsWanted (opened_round l.file l.o l.row) (length l.steps) l.holders l.steps l.wanted
     × (l.listed ≡ (opened_round l.file l.o l.row).steps_listed) × (l.width ≡ closing_width l.listed) × (l.at + l.width * l.j-end ≤ length l.initial.area)
     × TypesNoted (opened_round l.file l.o l.row) l.j l.holders l.types

@@ -43,7 +43,7 @@ loop-i-preserved g c = (
 )
 
 pub shape_of-asked : goal.shape_of-asked
-shape_of-asked g c = omega (arith, asked_long c.requires.1.0 c.loop-i.invariant.2, sized c.args.o.head.n c.requires.1.1.0)
+shape_of-asked g c = omega (arith, asked_long c.requires.1.0 c.loop-i.invariant.2, sized c.args.o.head.candidates c.requires.1.1.0)
 
 pub shape_of-wanted : goal.shape_of-wanted
 shape_of-wanted g c = omega (arith, wanted_long c.requires.1.0 c.loop-i.invariant.2, c.requires.1.1.1)

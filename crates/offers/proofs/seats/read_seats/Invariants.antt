@@ -6,7 +6,7 @@ use Rattle.offers.specs.Listed.{SeatsRead}
 use Rattle.offers.proofs.seats.read_seats.Given as goal
 
 abbrev pub invariant-loop-i : goal.invariant-loop-i
-invariant-loop-i g l = (l.i ≤ l.i-end) × (l.i-end ≡ l.o.head.n) × SeatsRead (opened_round l.file l.o l.row) (list_of l.o.head.form (opened_round l.file l.o l.row) l.list) l.i l.asked l.wanted
+invariant-loop-i g l = (l.i ≤ l.i-end) × (l.i-end ≡ l.o.head.candidates) × SeatsRead (opened_round l.file l.o l.row) (list_of l.o.head.form (opened_round l.file l.o l.row) l.list) l.i l.asked l.wanted
 
 abbrev pub decreases-loop-i : goal.decreases-loop-i
 decreases-loop-i g l = l.i-end - l.i

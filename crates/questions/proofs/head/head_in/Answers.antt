@@ -9,7 +9,7 @@ use Rattle.questions.specs.Records.{head_in}
 use Rattle.questions.proofs.head.head_in.Goals as goal
 
 words-read : (form : Form) (body : List ℕ) {n m l p : ℕ} → n ≡ word body 0 → m ≡ word body 2 → l ≡ word body 4 → p ≡ word body 6
-    → record { form = form; n = n; m = m; types = l; policy = p } ≡ head_in form body
+    → record { form = form; candidates = n; institutes = m; types = l; policy = p } ≡ head_in form body
 words-read form body a b c d = rw (a, b, c, d)
 
 pub returns : goal.returns

@@ -5,9 +5,8 @@ use mathlib.Core.Path.{◌≡◌, sym, ◌∙◌}
 use mathlib.Core.Bool.{Bool, true, false, cond, ◌&&◌}
 use borrow.Author.Tests.{eq-eqb, ne_eqb}
 use lib.Dec.{eqb}
-use Rattle.questions.specs.declared.head.Head.{Head}
 use Rattle.questions.specs.Form.{form_kind}
-use Rattle.questions.specs.Records.{own_steps, kind_due}
+use Rattle.questions.specs.Records.{Head, own_steps, kind_due}
 use Rattle.questions.proofs.head.kind_due.Goals as goal
 use Rattle.questions.proofs.head.kind_due.Goals.{else-kind-eq2-via-then-kind-eq2+else-own_steps, else-kind-eq2-via-else-kind-eq2}
 

@@ -2,6 +2,7 @@
 -- Assumes nothing.
 use borrow.Author.Tests.{eq-eqb, ne_eqb}
 use native.Mathlib.Omega.{arith}
+use Rattle.questions.specs.Read.{as_head}
 use Rattle.questions.proofs.Steps.{StepInside, step_inside, receiver_yes, receiver_no, six_gets, none_gets, none_hands_on}
 use borrow.Author.Rules.{rules}
 use Rattle.questions.proofs.institute.receiver_in.Goals as goal
@@ -25,12 +26,12 @@ returns-then-own_steps c = search (receiver_yes, rules)
 pub returns-then-k-eq3 : goal.returns-then-k-eq3
 returns-then-k-eq3 c =
     let a = c.args in
-    receiver_no a.h c.own_steps.ensures a.body.now a.k c.if-own_steps.false (six_gets a.h.policy a.k c.if-h-eq1.true (eq-eqb a.k 3 c.if-k-eq3.true))
+    receiver_no (as_head a.h) c.own_steps.ensures a.body.now a.k c.if-own_steps.false (six_gets a.h.policy a.k c.if-h-eq1.true (eq-eqb a.k 3 c.if-k-eq3.true))
 
 pub returns-else-h-eq1 : goal.returns-else-h-eq1
 returns-else-h-eq1 c =
     let a = c.args in
-    receiver_no a.h c.own_steps.ensures a.body.now a.k c.if-own_steps.false
+    receiver_no (as_head a.h) c.own_steps.ensures a.body.now a.k c.if-own_steps.false
     (elim c.else-h-eq1.branch [
       | else-h-eq1-via-then-h-eq1+else-k-eq3 w ↦ none_gets a.h.policy a.k (ne_eqb a.k 3 w.if-k-eq3.false)
       | else-h-eq1-via-else-h-eq1 w ↦ none_hands_on a.h.policy a.k w.if-h-eq1.false

@@ -4,6 +4,7 @@ use Prim.Native.Nat.{◌+◌, ◌*◌, ◌≤◌}
 use mathlib.Core.Path.{refl}
 use native.Mathlib.Omega.{arith}
 use lib.ListN.{length-set}
+use Rattle.questions.specs.Read.{as_head}
 use Rattle.reader.proofs.RuleTables.{row_start, row_begin, row_write, rule_row}
 use Rattle.reader.proofs.rules.write_rule.Goals as goal
 use Rattle.reader.proofs.rules.write_rule.Goals.{Start}
@@ -64,5 +65,5 @@ pub returns : goal.returns
 returns c =
     let own = c.positions_in.ensures in
     let a = c.args in
-    rule_row a.h a.body.now a.k _ _ _ c.loop-t.t a.table.now _ (omega arith) (omega (arith, c.requires.k_bound.1))
+    rule_row (as_head a.h) a.body.now a.k _ _ _ c.loop-t.t a.table.now _ (omega arith) (omega (arith, c.requires.k_bound.1))
     c.step_code.ensures.0 c.receiver_in.ensures own.0 (omega (arith, own.1)) c.loop-t.invariant.2

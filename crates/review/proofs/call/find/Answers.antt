@@ -16,7 +16,7 @@ give_steps-requires g c = (search rules, (search rules, (omega (arith, candidate
 pub first_wrong-i-requires : goal.first_wrong-i-requires
 first_wrong-i-requires g c =
     let listed = c.read_seats.ensures in
-    let long : length c.read_seats.new.asked ≡ c.args.o.head.n = listed.asked_many ∙ candidates_many c.requires.1.0.hand c.requires.0 in
+    let long : length c.read_seats.new.asked ≡ c.args.o.head.candidates = listed.asked_many ∙ candidates_many c.requires.1.0.hand c.requires.0 in
     record {
       steps_len = (c.give_steps.ensures.many ∙ sym listed.asked_many, omega (arith, long, candidates_few c.requires.1.0.hand));
       list_len = c.requires.1.0.size ∙ ap (λ n. seat_width c.args.o.head.form * n) (sym long);

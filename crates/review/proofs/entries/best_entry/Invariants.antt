@@ -7,7 +7,7 @@ use Rattle.review.proofs.EntriesAbove.{takes_at}
 use Rattle.review.proofs.entries.best_entry.Given as goal
 
 abbrev pub invariant-loop-k : goal.invariant-loop-k
-invariant-loop-k g l = (l.k ≤ l.above) × (l.asked ≡ l.initial.asked) × (l.wanted ≡ l.initial.wanted) × (length l.steps ≡ l.o.head.n)
+invariant-loop-k g l = (l.k ≤ l.above) × (l.asked ≡ l.initial.asked) × (l.wanted ≡ l.initial.wanted) × (length l.steps ≡ l.o.head.candidates)
     × PassedOver (takes_at g.r (list_of l.o.head.form g.r l.list) l.i) l.k
 
 abbrev pub decreases-loop-k : goal.decreases-loop-k

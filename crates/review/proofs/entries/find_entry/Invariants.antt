@@ -7,7 +7,7 @@ use Rattle.offers.proofs.FirstFound.{PassedOver}
 use Rattle.review.proofs.entries.find_entry.Given as goal
 
 abbrev pub invariant-loop-i : goal.invariant-loop-i
-invariant-loop-i g l = (l.i ≤ l.i-end) × (l.i-end ≡ l.o.head.n) × (l.asked ≡ l.initial.asked) × (l.wanted ≡ l.initial.wanted) × (length l.steps ≡ l.o.head.n)
+invariant-loop-i g l = (l.i ≤ l.i-end) × (l.i-end ≡ l.o.head.candidates) × (l.asked ≡ l.initial.asked) × (l.wanted ≡ l.initial.wanted) × (length l.steps ≡ l.o.head.candidates)
     × PassedOver (better g.r (list_of l.o.head.form g.r l.list)) l.i
 
 abbrev pub decreases-loop-i : goal.decreases-loop-i

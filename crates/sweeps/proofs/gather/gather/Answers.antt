@@ -11,7 +11,7 @@ use Rattle.sweeps.proofs.gather.gather.Given.{Over}
 use Rattle.sweeps.proofs.gather.gather.Goals.{After-merit_place-c, then-offer-ne0, else-offer-ne0}
 
 -- the candidate at the place is one of the round
-candidate : {g : Over} (c : After-merit_place-c g) → c.merit_place-c.result - 1 < c.args.o.head.n
+candidate : {g : Over} (c : After-merit_place-c g) → c.merit_place-c.result - 1 < c.args.o.head.candidates
 candidate c = let pre = c.requires in number_most pre.1.0 pre.1.1.0 (omega arith) c.merit_place-c.ensures
 
 pub overflow_add-number : goal.overflow_add-number

@@ -9,7 +9,7 @@ use Rattle.sweeps.proofs.process.sweep_all.Given as goal
 
 abbrev pub invariant-loop-o : goal.invariant-loop-o
 invariant-loop-o g l = Going (opened_round l.file l.o l.row) l.tried l.asked l.wanted l.steps l.count × (length l.fresh ≡ 1000) × OpenedFile l.file l.o l.row l.starts
-    × (length l.initial.tried ≡ l.o.head.n) × (length l.initial.asked ≡ l.o.head.n) × (length l.initial.wanted ≡ l.o.head.n) × (length l.initial.steps ≡ l.o.head.n)
+    × (length l.initial.tried ≡ l.o.head.candidates) × (length l.initial.asked ≡ l.o.head.candidates) × (length l.initial.wanted ≡ l.o.head.candidates) × (length l.initial.steps ≡ l.o.head.candidates)
 
 abbrev pub decreases-loop-o : goal.decreases-loop-o
 decreases-loop-o g l = entry_total (opened_round l.file l.o l.row) - l.count
