@@ -1,4 +1,4 @@
--- `offers::accounts::seats_wanted` meets its contract: the loop keeps `SeatsWanted`. Assumes nothing.
+-- `offers::seats::seats_wanted` meets its contract: the loop keeps `SeatsWanted`. Assumes nothing.
 use mathlib.Core.Path.{refl}
 use native.Mathlib.Omega.{arith}
 use borrow.Author.Rules.{rules}
