@@ -6,21 +6,27 @@ ghost use Rattle.std.specs.Io.KnownBytes.{Consumes, IsAtEnd};
 ghost use Rattle.page.specs.Page.{printed};
 
 use page::{page_room, put_page};
+use std::fmt;
 use std::io::Read;
 
-// Room for as much of the input as decides what is printed (law `first_bytes` of `page`): the longest input that is read and one byte more.
-fn input_room() -> [u8; 65537]
-    ensures { length result ≡ 65537 }
-{
-    [0; 65537]
+// Why nothing was printed, or not all of it.
+#[derive(Drop)]
+enum Failure {
+    Reading,
+    Writing,
 }
 
-// One line on standard error; where that fails too, there is nobody left to tell.
-fn say(rt: &impl Eprint, line: &str) {
-    let _ = rt.eprintln(line);
+impl fmt::Display for Failure {
+    fn fmt<W: fmt::Write>(&self, f: &mut fmt::Formatter<W>) -> fmt::Result {
+        match self {
+            Failure::Reading => write!(f, "the input could not be read"),
+            Failure::Writing => write!(f, "the page could not be written"),
+        }
+    }
 }
 
-// Reads until the room is full, the input ends or a read fails: how many bytes it read, which stand at the front of the room in their order.
+// Reads until the room is full, the input ends or a read fails: how many bytes it read, which stand at the front of the room in their order. A loop by
+// length, since only a read tells how many bytes it brought.
 fn read_full<R: Read>(from: &mut R, room: &mut [u8]) -> usize
     ensures bound { result ≤ length room.new }
     ensures bytes { Consumes (R.remaining from.old) (R.remaining from.new) (take result room.new) }
@@ -39,32 +45,33 @@ fn read_full<R: Read>(from: &mut R, room: &mut [u8]) -> usize
 fn ended<R: Read>(from: &mut R) -> bool
     ensures { result ≡ true → IsAtEnd (R.remaining from.new) }
 {
-    let mut more = [0u8; 1];
-    match from.read(&mut more) {
-        Ok(size) => size == 0,
-        Err(_) => false,
-    }
+    matches!(from.read(&mut [0; 1]), Ok(0))
 }
 
 // Hands what is printed for an input to standard output, by all of its bytes or its first 65,537.
-fn hand_out(rt: &impl Print, file: &[u8], text: &[u8]) -> bool
+fn hand_out(rt: &impl Print, file: &[u8], text: &[u8]) -> Result<(), Failure>
     requires { text.now ≡ printed file.now }
 {
-    rt.write_all(text).is_ok()
+    rt.write_all(text).map_err(|_| Failure::Writing)
 }
 
-fn main(rt: HostRuntime) {
-    let mut input = input_room();
+// Reads as much of the input as decides what is printed (law `first_bytes` of `page`), the longest input that is read and one byte more, and prints it.
+fn run(rt: &HostRuntime) -> Result<(), Failure> {
+    let mut input = [0; 65537];
     let mut from = rt.stdin();
     let size = read_full(&mut from, &mut input);
-    if size < 65537 && !ended(&mut from) {
-        say(&rt, "allot: the input could not be read");
-        return;
+    if size < input.len() && !ended(&mut from) {
+        return Err(Failure::Reading);
     }
     let mut page = page_room();
     let file = &input[..size];
     let length = put_page(&mut page, file);
-    if !hand_out(&rt, file, &page[..length]) {
-        say(&rt, "allot: the page could not be written");
+    hand_out(rt, file, &page[..length])
+}
+
+fn main(rt: HostRuntime) {
+    if let Err(failure) = run(&rt) {
+        // Where this fails too, there is nobody left to tell.
+        let _ = eprintln!(rt; "allot: {failure}");
     }
 }

@@ -1,6 +1,8 @@
 -- What a call answers and what it leaves in both areas (document 01, "The questions, in order" and "Offers"; document 02, Points 3, 6 and 7), for
 -- every input.
-use Rattle.std.specs.Prelude.{ℕ, ◌≡◌, ◌&&◌, List, leb, length}
+use Rattle.std.specs.Prelude.{ℕ, ◌≡◌, ◌&&◌, List, Result, Ok, Err, leb, length}
+use Rattle.questions.specs.Numbered.{number_of}
+use Rattle.reader.specs.declared.refusal.Refusal.{Refusal}
 use Rattle.questions.specs.declared.form.Form.{Form}
 use Rattle.round.specs.Round.{Round}
 use Rattle.questions.specs.Records.{form_of}
@@ -16,6 +18,11 @@ use Rattle.allotment.specs.Areas.{answer_bytes, answer_size}
 abbrev pub outcome_of : Answer → Outcome ℕ
 outcome_of (Allotted offers) = said offers
 outcome_of (Refused number offset) = refused number offset
+
+-- the answer that the result of the code stands for
+abbrev pub answer_of : Result ℕ Refusal → Answer
+answer_of (Ok offers) = Allotted offers
+answer_of (Err f) = Refused (number_of f.question) f.offset
 
 -- 14: both areas are large enough
 abbrev pub outcome_on : Form → Round → ℕ → ℕ → Outcome ℕ

@@ -1,144 +1,90 @@
 // The bytes of the answer area: the seats, then the closing places, then the types used.
-ghost use Rattle.std.specs.Prelude.{◌≡◌, ◌++◌, ◌+◌, ◌*◌, ◌<◌, ◌≤◌, length, drop, replicate};
-ghost use Rattle.std.proofs.lemmas.List.Edits.{sets};
+ghost use Rattle.std.specs.Prelude.{◌≡◌, ◌++◌, ◌*◌, ◌≤◌, length, take, drop, replicate};
 ghost use Rattle.lists.specs.Lists.{tabulate, joined};
-ghost use Rattle.round.specs.Round.{Round};
-ghost use Rattle.reader.specs.Opened.{OpenedFile, opened_round};
+ghost use Rattle.reader.specs.AtHand.{round_at};
 ghost use Rattle.offers.specs.Process.{seats, types_used};
-ghost use Rattle.offers.specs.Held.{HeldIn};
-ghost use Rattle.offers.specs.Held.{SeatsWanted};
+ghost use Rattle.offers.specs.Held.{HeldIn, SeatsWanted};
 ghost use Rattle.allotment.specs.Areas.{closing_width, closing_bytes, answer_bytes, answer_size};
 ghost use Rattle.allotment.specs.Writing.{closings_in};
 
 use crate::sizes::{closing_count, closing_width};
-use choice::account::account_table;
-use lists::clearing::zeros;
+use choice::step::Numbers;
 use offers::seats::seats_wanted;
 use offers::write::{write_seats, write_word};
 use questions::form::seats_size;
 use questions::head::own_steps;
 use reader::opened::Opened;
-use sweeps::accounts::account_anew;
+use sweeps::gather::Offers;
 
-// The closing places of an institute, twelve or six, from a byte on, by the numbers of its account.
-fn write_institute(noted: &[usize], listed: bool, area: &mut [u8], at: usize)
-    requires noted_len { length noted.now ≡ 60 }
-    requires listed_in_bounds { at + closing_width listed ≤ length area.old }
-    ensures { area.new ≡ sets area.old at (closings_in listed noted.now) }
+// The closing places of an institute, twelve or six, by the numbers of its account.
+fn write_institute(noted: &[Numbers; 12], listed: bool, places: &mut [u8])
+    requires { length places.old ≡ closing_width listed }
+    ensures { places.new ≡ closings_in listed noted.now }
 {
     let count = closing_count(listed);
-    for k in 0..count {
-        write_word(area, at + 2 * k, noted[k * 5 + 4]);
+    for (k, numbers) in noted[..count].iter().enumerate() {
+        write_word(places, 2 * k, numbers.closing);
     }
 }
 
-// The closing places of every institute, from a byte on, and the types used: each institute chooses once more, from its seats, whose categories a
-// table has.
-fn write_each(
-    file: &[u8],
-    o: Opened,
-    row: &[u8],
-    starts: &[u32],
-    holders: &[u16],
-    steps: &[u8],
-    wanted: &[u8],
-    types: &mut [u8],
-    area: &mut [u8],
-    at: usize,
-)
-    ghost r: { Round }
-    requires row_value { opened_round file.now o row.now ≡ r }
-    requires opened_file { OpenedFile file.now o row.now starts.now }
-    requires held_in { HeldIn (seats r) holders.now steps.now × SeatsWanted r (length steps.now) holders.now steps.now wanted.now }
-    requires types_value { types.old ≡ replicate o.head.candidates 0 }
-    requires institutes_in_bounds { at + closing_width r.steps_listed * o.head.institutes ≤ length area.old }
-    ensures { (types.new ≡ types_used r)
-        × (area.new ≡ sets area.old at (joined (tabulate o.head.institutes (closing_bytes r)))) }
-{
-    let h = o.head;
-    let listed = own_steps(h);
-    let width = closing_width(listed);
-    for j in 0..h.institutes {
-        let mut noted = account_table();
-        account_anew(file, o, row, starts, j, holders, wanted, types, &mut noted);
-        write_institute(&noted, listed, area, at + width * j);
+// A round with its seats as the two tables of the process hold them: the institute and the step of each candidate, 0 and 0 for none as `HeldIn` has it.
+#[derive(Clone, Copy)]
+pub struct Seated<'a> {
+    pub o: Opened<'a>,
+    pub holders: &'a [u16],
+    pub steps: &'a [u8],
+    pub ghost held: { HeldIn (seats (round_at o)) holders.now steps.now },
+}
+
+impl Seated<'_> {
+    // The closing places of every institute, and the types used: each institute chooses once more, from its seats, whose categories a table has.
+    fn write_each(&self, wanted: &[u8], types: &mut [u8], closings: &mut [u8])
+        requires wanted { SeatsWanted (round_at self.now.o) (length self.now.steps.now) self.now.holders.now self.now.steps.now wanted.now }
+        requires types_value { types.old ≡ replicate self.now.o.head.candidates 0 }
+        requires closings_len { length closings.old ≡ closing_width (round_at self.now.o).steps_listed * self.now.o.head.institutes }
+        ensures types { types.new ≡ types_used (round_at self.now.o) }
+        ensures closings { closings.new ≡ joined (tabulate self.now.o.head.institutes (closing_bytes (round_at self.now.o))) }
+    {
+        let h = self.o.head;
+        let listed = own_steps(h);
+        let width = closing_width(listed);
+        let offers = Offers {
+            o: self.o,
+            asked: self.holders,
+            wanted,
+        };
+        // By index, since a proof has no values behind `chunks_exact_mut`.
+        for j in 0..h.institutes {
+            let noted = offers.account_anew(j, types);
+            write_institute(&noted, listed, &mut closings[width * j..width * j + width]);
+        }
     }
-}
 
-// The closing places of every institute, from a byte on, and the types used.
-fn write_closings(
-    file: &[u8],
-    o: Opened,
-    row: &[u8],
-    starts: &[u32],
-    holders: &[u16],
-    steps: &[u8],
-    types: &mut [u8],
-    area: &mut [u8],
-    at: usize,
-)
-    ghost r: { Round }
-    requires row_value { opened_round file.now o row.now ≡ r }
-    requires opened_file { OpenedFile file.now o row.now starts.now }
-    requires held_in { HeldIn (seats r) holders.now steps.now }
-    requires types_value { types.old ≡ replicate o.head.candidates 0 }
-    requires institutes_in_bounds { at + closing_width r.steps_listed * o.head.institutes ≤ length area.old }
-    ensures { (types.new ≡ types_used r)
-        × (area.new ≡ sets area.old at (joined (tabulate o.head.institutes (closing_bytes r)))) }
-{
-    let n = o.head.candidates;
-    let mut wanted = zeros();
-    seats_wanted(file, o, row, starts, holders, steps, &mut wanted[..n]);
-    write_each(
-        file,
-        o,
-        row,
-        starts,
-        holders,
-        steps,
-        &wanted[..n],
-        types,
-        area,
-        at,
-    );
-}
-
-// The type of each candidate, from a byte on.
-fn write_types(types: &[u8], area: &mut [u8], at: usize)
-    requires { at + length types.now ≤ length area.old }
-    ensures { area.new ≡ sets area.old at types.now }
-{
-    for i in 0..types.len() {
-        area[at + i] = types[i];
+    // The closing places of every institute; returns a table that begins with the types used.
+    fn write_closings(&self, closings: &mut [u8]) -> [u8; 512]
+        requires { length closings.old ≡ closing_width (round_at self.now.o).steps_listed * self.now.o.head.institutes }
+        ensures types { take self.now.o.head.candidates result ≡ types_used (round_at self.now.o) }
+        ensures closings { closings.new ≡ joined (tabulate self.now.o.head.institutes (closing_bytes (round_at self.now.o))) }
+    {
+        let n = self.o.head.candidates;
+        let mut wanted = [0; 512];
+        seats_wanted(&self.o, self.holders, self.steps, &mut wanted[..n]);
+        let mut types = [0; 512];
+        self.write_each(&wanted[..n], &mut types[..n], closings);
+        types
     }
-}
 
-// All that the answer area gets, where two arrays hold the list of the round; the types used are noted on the way.
-pub fn write_answer(
-    file: &[u8],
-    o: Opened,
-    row: &[u8],
-    starts: &[u32],
-    holders: &[u16],
-    steps: &[u8],
-    types: &mut [u8],
-    answer: &mut [u8],
-)
-    ghost r: { Round }
-    requires row_value { opened_round file.now o row.now ≡ r }
-    requires opened_file { OpenedFile file.now o row.now starts.now }
-    requires held_in { HeldIn (seats r) holders.now steps.now }
-    requires types_value { types.old ≡ replicate o.head.candidates 0 }
-    requires r_in_bounds { answer_size o.head.form r ≤ length answer.old }
-    ensures { answer.new ≡ answer_bytes o.head.form r ++ drop (answer_size o.head.form r) answer.old }
-{
-    let h = o.head;
-    let form = h.form;
-    let closings = seats_size(form, h.candidates);
-    write_seats(form, holders, steps, answer);
-    write_closings(
-        file, o, row, starts, holders, steps, types, answer, closings,
-    );
-    let placed = closings + closing_width(own_steps(h)) * h.institutes;
-    write_types(types, answer, placed);
+    // All that the answer area gets.
+    pub fn write_answer(&self, answer: &mut [u8])
+        requires { answer_size self.now.o.head.form (round_at self.now.o) ≤ length answer.old }
+        ensures { answer.new ≡ answer_bytes self.now.o.head.form (round_at self.now.o) ++ drop (answer_size self.now.o.head.form (round_at self.now.o)) answer.old }
+    {
+        let h = self.o.head;
+        let n = h.candidates;
+        let (seats, rest) = answer.split_at_mut(seats_size(h.form, n));
+        let (closings, rest) = rest.split_at_mut(closing_width(own_steps(h)) * h.institutes);
+        write_seats(h.form, self.holders, self.steps, seats);
+        let types = self.write_closings(closings);
+        rest[..n].copy_from_slice(&types[..n]);
+    }
 }

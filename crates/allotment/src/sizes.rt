@@ -5,6 +5,7 @@ ghost use Rattle.allotment.specs.Areas.{closing_count, closing_width, size_for};
 use questions::form::Form;
 
 // The number of an institute's closing places, by whether institutes list their own steps.
+#[tactic(auto, unfolding(crate::specs::Areas::closing_count))]
 pub fn closing_count(listed: bool) -> usize
     ensures { result ≡ closing_count listed }
 {
@@ -12,10 +13,11 @@ pub fn closing_count(listed: bool) -> usize
 }
 
 // Their bytes.
+#[tactic(auto, using(crate::proofs::Files::AreaSeats::places_wide, crate::proofs::Files::Closing::places_few))]
 pub fn closing_width(listed: bool) -> usize
     ensures { result ≡ closing_width listed }
 {
-    if listed { 24 } else { 12 }
+    2 * closing_count(listed)
 }
 
 // The bytes of the answer area that question 14 asks for.

@@ -17,14 +17,15 @@ use Rattle.choice.proofs.Taking.{takes, types_taken}
 use Rattle.choice.specs.Choice.{Progress, considers, positions_at, taken_at, vacant_at, advance, advance_all, nothing_done, choose}
 use Rattle.choice.specs.Account.{StepAccount, took_for_use, type_used, account_of, account_at, account_from, account, closing_place, type_in}
 use Rattle.lists.specs.Lists.{last_of}
-use Rattle.choice.specs.Noted.{number_for_use, number_by_merit, numbers_of, noted_of, place_from, Placed}
+use Rattle.choice.specs.Noted.{number_for_use, number_by_merit, numbers_of, noted_of, place_from, with_place, Placed}
+use Rattle.choice.specs.declared.step.Numbers.{Numbers}
 use Rattle.lists.specs.Gathers.{Gathers, gathered}
-use Rattle.lists.proofs.Counting.{test, below}
+use Rattle.lists.proofs.Counting.{test}
 use Rattle.choice.proofs.Offers.{Offers}
-use Rattle.lists.proofs.Tabulate.{get_or_zeros}
+use Rattle.lists.proofs.Tabulate.{get_or_zeros, tabulate_cong}
 use Rattle.lists.proofs.Gathered.{number_below}
 use Rattle.lists.proofs.Last.{last_in, last_out}
-use Rattle.choice.proofs.Noted.{count_listed, last_listed, idle, noted_at, noted_by}
+use Rattle.choice.proofs.Noted.{count_listed, last_listed, idle, map_tabulate}
 use Rattle.matching.proofs.Types.{types_at_lem}
 
 -- X' says of the gathered what X says of the places below n, and nothing else is in X
@@ -44,13 +45,10 @@ idle_same : (places : List ℕ) → SameNumbers places idle idle
 unfolding closing_place greatest_of
 idle_same places = record { positions = refl; for_use_is = refl; by_merit_is = refl; vacant = refl; closing = refl }
 
-rows_same : {places : List ℕ} {step step' : StepAccount} → SameNumbers places step step' → (i : ℕ) → i < 4 → get_or (numbers_of step) i 0 ≡ get_or (numbers_of step') i 0
+-- its numbers are those there, with that place
+numbers_same : {places : List ℕ} {step step' : StepAccount} → SameNumbers places step step' → with_place places (numbers_of step') ≡ numbers_of step
 unfolding numbers_of
-rows_same s zero l = s.positions
-rows_same s (suc zero) l = s.for_use_is
-rows_same s (suc (suc zero)) l = s.by_merit_is
-rows_same s (suc (suc (suc zero))) l = s.vacant
-rows_same s (suc (suc (suc (suc i)))) l = absurd (omega arith)
+numbers_same s = rw (s.closing, s.positions, s.for_use_is, s.by_merit_is, s.vacant)
 
 module _ (G : ℕ → Bool) (n : ℕ) where
   next_in : (p : ℕ) → G p ≡ true → count_of (suc p) G ≡ suc (count_of p G)
@@ -286,14 +284,10 @@ module _ (G : ℕ → Bool) (n : ℕ) (marks marks' : List ℕ) (whole : length 
     unfolding account
     account_gathered rules k = same_numbers rules 1 k _ _ same_start
 
-    -- the table of the gathered, with the places of the closing places there, is that of the whole
-    pub noted_gathered : (rules : List StepRule) (noted : List ℕ) → Placed places (noted_of (account marks' Y' rules)) noted → noted ≡ noted_of (account marks Y rules)
+    -- the account of the gathered, with the places of the closing places there, is that of the whole
+    pub noted_gathered : (rules : List StepRule) (noted : List Numbers) → Placed places (noted_of (account marks' Y' rules)) noted → noted ≡ noted_of (account marks Y rules)
+    unfolding noted_of
     noted_gathered rules noted put =
-        noted_by (account marks Y rules) noted put.sized
-        (λ k i l b.
-        let s = account_gathered rules k in
-        below i 4 b
-        (λ less. put.others k i l less ∙ noted_at (account marks' Y' rules) k i l b ∙ sym (rows_same s i less))
-        (λ same.
-        rw same
-        (put.closings k l ∙ ap (place_from places) (noted_at (account marks' Y' rules) k 4 l (omega arith)) ∙ sym (unfold numbers_of in s.closing))))
+        put
+        ∙ map_tabulate (with_place places) 12 (λ k. numbers_of (account_of (account marks' Y' rules) (suc k)))
+        ∙ tabulate_cong 12 _ _ (λ k l. numbers_same (account_gathered rules k))

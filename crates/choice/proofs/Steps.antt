@@ -2,11 +2,12 @@
 use Prim.Native.Nat.{ℕ, zero, suc, ◌+◌, ◌-◌, ◌≤◌, ◌<◌, min}
 use mathlib.Core.Path.{◌≡◌, refl, sym, ap, ◌∙◌}
 use mathlib.Core.Bool.{Bool, true, false, cond, not, ◌&&◌, ◌||◌}
-use mathlib.Core.List.{List, [], ◌∷◌, ◌++◌}
+use mathlib.Core.List.{List, ◌++◌}
 use native.Mathlib.Omega.{arith}
 use lib.Dec.{ltb}
 use lib.ListN.{length, get_or, take, drop, replicate, length-replicate}
 use lib.Seq.{take_at, length-take-le, length_front}
+use Rattle.std.proofs.lemmas.List.{take-replicate}
 use borrow.Author.Tests.{lt-ltb, le-ltb}
 use Rattle.lists.specs.Lists.{count_of, bit}
 use Rattle.matching.specs.ForUse.{taken_for_use}
@@ -14,19 +15,13 @@ use Rattle.choice.specs.Step.{remaining, taken_by_merit, taken}
 use Rattle.placing.specs.Offers.{Places}
 use Rattle.types.specs.Lowered.{TookTyped}
 use Rattle.matching.specs.Use.{typed_at}
+use Rattle.choice.specs.declared.step.Numbers.{Numbers}
 use Rattle.choice.specs.Fill.{rest_at, fills_at, seats_at, numbered, typed, step_given, step_vacant, step_types, step_numbers}
 use Rattle.lists.specs.Lists.{last_of}
 use Rattle.lists.proofs.Counting.{less_or, count_ext}
 use Rattle.lists.proofs.Sets.{count_best}
 use Rattle.lists.proofs.Last.{last_ext}
 use Rattle.lists.proofs.Tabulate.{tabulate_cong}
-
--- a part of a list of the same
-take_replicate : (k n : ℕ) → k ≤ n → take k (replicate n zero) ≡ replicate k zero
-take_replicate zero zero h = refl
-take_replicate zero (suc n) h = refl
-take_replicate (suc k) zero h = absurd (omega arith)
-take_replicate (suc k) (suc n) h = rw (take_replicate k n (omega arith))
 
 -- a list of zeros has its length
 pub sized : (n : ℕ) {l : List ℕ} → l ≡ replicate n zero → length l ≡ n
@@ -45,7 +40,7 @@ module _ {n : ℕ} {table : List ℕ} (few : n ≤ 512) (zeros : table ≡ repli
   front_each = length-take-le n table room
 
   pub front_zero : take n table ≡ replicate n 0
-  front_zero = ap (take n) zeros ∙ take_replicate n 512 few
+  front_zero = ap (take n) zeros ∙ take-replicate n 512 0 few
 
   module _ (front : List ℕ) (kept : length front ≡ length (take n table)) where
     pub room_back : n ≤ length (front ++ drop n table)
@@ -56,6 +51,11 @@ module _ {n : ℕ} {table : List ℕ} (few : n ≤ 512) (zeros : table ≡ repli
 
     pub each_back : (m : ℕ) → m ≡ n → length (take n (front ++ drop n table)) ≡ m
     each_back m e = ap length types_back ∙ kept ∙ front_each ∙ sym e
+
+-- the numbers of a step
+abbrev numbers : ℕ → ℕ → ℕ → ℕ → ℕ → Numbers
+numbers positions used merit vacant closing =
+    record { positions = positions; used = used; merit = merit; vacant = vacant; closing = closing }
 
 numbered_same : (n number : ℕ) (X Y : ℕ → Bool) (given : List ℕ) → ((q : ℕ) → q < n → X q ≡ Y q) → numbered n number X given ≡ numbered n number Y given
 numbered_same n number X Y given h =
@@ -112,7 +112,8 @@ module _ (first : Bool) (reserved marks placed : List ℕ) (X : ℕ → Bool) (p
 
   -- the numbers of the step
   numbers_same : (free filled vacant closing : ℕ) → free ≡ positions - used → filled ≡ min free (count_of n (rest_at placed X)) → vacant ≡ free - filled
-      → closing ≡ last_of n (fills_at placed X free) → positions ∷ used ∷ filled ∷ vacant ∷ closing ∷ [] ≡ step_numbers reserved marks X positions
+      → closing ≡ last_of n (fills_at placed X free)
+      → numbers positions used filled vacant closing ≡ step_numbers reserved marks X positions
   numbers_same free filled vacant closing f e v c =
       let merit : filled ≡ count_of n (taken_by_merit reserved marks X positions) = filled_same free filled f e in
       let left : vacant ≡ step_vacant reserved marks X positions =
@@ -125,7 +126,7 @@ pub step_done : {reserved marks offers types given steps used₀ used : List ℕ
     → Places marks offers given used₀ → TookTyped first reserved marks types X took → free ≡ positions - took
     → (steps ≡ numbered (length given) number (seats_at types X free) given) × (filled ≡ min free (count_of (length given) (rest_at types X)))
     × (used ≡ typed (length given) types (typed_at types) used₀) × (closing ≡ last_of (length given) (fills_at types X free)) → vacant ≡ free - filled
-    → (steps ≡ step_given number reserved marks X positions given) × (positions ∷ took ∷ filled ∷ vacant ∷ closing ∷ [] ≡ step_numbers reserved marks X positions)
+    → (steps ≡ step_given number reserved marks X positions given) × (numbers positions took filled vacant closing ≡ step_numbers reserved marks X positions)
     × (first ≡ true → used ≡ step_types reserved marks X used₀)
 step_done {reserved} {marks} {types = types} {given = given} {used₀ = used₀} {X = X} {first} number positions {took} {free} {filled} {vacant} {closing} p k left s v = (
   rw (p.steps_each, left) at s.0 ∙ numbered_same (length marks) number _ _ given (seats_same first reserved marks types X positions took k),

@@ -12,7 +12,7 @@ use Rattle.matching.specs.ForUse.{taken_for_use}
 use Rattle.matching.specs.FirstPlacing.{types_of}
 use Rattle.matching.proofs.TakingRule.{TakingRule}
 use Rattle.matching.proofs.Taking.{taking_for_use, taken_for_use_within}
-use Rattle.matching.proofs.Types.{types_length, types_none, types_cong}
+use Rattle.matching.proofs.Types.{types_none, types_cong}
 
 unfoldable pub takes : StepRule → List ℕ → (ℕ → Bool) → ℕ → Bool
 takes rule marks = taken_for_use rule.reserved marks
@@ -55,10 +55,6 @@ module _ (rule : StepRule) (marks : List ℕ) where
   pub taking_rule : MarksFit rule marks → TakingRule (length marks) (takes_most rule) (takes rule marks)
   unfolding takes takes_most
   taking_rule fit = taking_for_use rule.reserved marks
-
-  pub types_taken_length : (X : ℕ → Bool) → length (types_taken rule marks X) ≡ length marks
-  unfolding types_taken
-  types_taken_length X = types_length rule.reserved marks (takes rule marks X)
 
   -- whoever the rule does not take has no type
   pub untaken_untyped : (X : ℕ → Bool) (p : ℕ) → takes rule marks X p ≡ false → get_or (types_taken rule marks X) p 0 ≡ 0

@@ -1,9 +1,9 @@
 -- The places that a step gives its number to, by the types given on the way down and the positions left (document 01, "One
 -- institute chooses": "Then fill the remaining positions by merit with those left, marked or not."), and the types of those taken for use;
 -- the numbers of a step.
-use Rattle.std.specs.Prelude.{ℕ, ◌-◌, Bool, cond, not, ◌&&◌, ◌||◌, List, [], ◌∷◌, ltb, length, get_or}
+use Rattle.std.specs.Prelude.{ℕ, ◌-◌, Bool, cond, not, ◌&&◌, ◌||◌, List, ltb, length, get_or}
 use Rattle.lists.specs.Lists.{tabulate, count_of, last_of}
-use Rattle.choice.specs.declared.step as code
+use Rattle.choice.specs.declared.step.Numbers.{Numbers}
 use Rattle.matching.specs.ForUse.{taken_for_use}
 use Rattle.choice.specs.Step.{taken_by_merit, taken}
 use Rattle.matching.specs.FirstPlacing.{types_of}
@@ -41,16 +41,12 @@ step_types reserved marks considered used =
     let X : ℕ → Bool = taken_for_use reserved marks considered in
     typed (length marks) (types_of reserved marks X) X used
 
--- the numbers of a step as the code returns them
-abbrev pub numbers_in : code.Numbers.Numbers → List ℕ
-numbers_in numbers = numbers.positions ∷ numbers.used ∷ numbers.merit ∷ numbers.vacant ∷ numbers.closing ∷ []
-
--- the numbers of a step with these positions, in the order of its account
-abbrev pub step_numbers : List ℕ → List ℕ → (ℕ → Bool) → ℕ → List ℕ
-step_numbers reserved marks considered positions =
-    positions
-    ∷ count_of (length marks) (taken_for_use reserved marks considered)
-    ∷ count_of (length marks) (taken_by_merit reserved marks considered positions)
-    ∷ step_vacant reserved marks considered positions
-    ∷ last_of (length marks) (taken_by_merit reserved marks considered positions)
-    ∷ []
+-- the numbers of a step with these positions
+abbrev pub step_numbers : List ℕ → List ℕ → (ℕ → Bool) → ℕ → Numbers
+step_numbers reserved marks considered positions = record {
+  positions = positions;
+  used = count_of (length marks) (taken_for_use reserved marks considered);
+  merit = count_of (length marks) (taken_by_merit reserved marks considered positions);
+  vacant = step_vacant reserved marks considered positions;
+  closing = last_of (length marks) (taken_by_merit reserved marks considered positions);
+}

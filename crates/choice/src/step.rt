@@ -1,14 +1,15 @@
 // One step: taking for use, the types of those taken, then filling by merit.
-ghost use Rattle.std.specs.Prelude.{◌≡◌, true, ◌-◌, ◌≤◌, ◌<◌, length};
+ghost use Rattle.std.specs.Prelude.{◌≡◌, true, ◌≤◌, length, take};
+ghost use Rattle.round.specs.Category.{code_of};
 ghost use Rattle.placing.specs.Offers.{considers_by, Places};
-ghost use Rattle.choice.specs.Fill.{step_given, step_types, numbers_in, step_numbers};
+ghost use Rattle.choice.specs.Fill.{step_given, step_types, step_numbers};
 
 use crate::fill::fill;
-use lists::clearing::clear;
+use round::rule::Rule;
 use types::first::take_typed;
 
 // What a step comes to: its positions, how many it took for use and how many by merit, the positions that it leaves vacant, and its closing
-// place.
+// place, from 1; 0 for nobody, as `closing_place` has it.
 #[derive(Clone, Copy)]
 pub struct Numbers {
     pub positions: usize,
@@ -18,23 +19,23 @@ pub struct Numbers {
     pub closing: usize,
 }
 
-// The positions that so many leave.
-fn left_of(positions: usize, filled: usize) -> usize
-    ensures { result ≡ positions - filled }
-{
-    if filled < positions {
-        positions - filled
-    } else {
-        0
-    }
+impl Numbers {
+    // A step that did nothing.
+    pub const NONE: Numbers = Numbers {
+        positions: 0,
+        used: 0,
+        merit: 0,
+        vacant: 0,
+        closing: 0,
+    };
 }
 
-// Does one step and returns its numbers; with `first` the types used are those of the first placing, else nothing is said of them. A table is for the
-// types of those taken for use.
+// Does one step by its rule, with so many positions, and returns its numbers; with `first` the types used are those of the first placing, else nothing
+// is said of them. A table is for the types of those taken for use. Tables side by side, and a flag beside that of the types, as `choose` has them.
 pub fn step(
-    reserved: &[usize],
+    rule: &Rule,
+    types: usize,
     positions: usize,
-    code: usize,
     number: u8,
     marks: &[u8],
     offers: &[u8],
@@ -43,18 +44,19 @@ pub fn step(
     steps: &mut [u8],
     used: &mut [u8],
 ) -> Numbers
-    requires reserved_len_bound { (length reserved.now ≤ 8) × (code < 5) }
+    requires types_most { types ≤ 8 }
     requires places { Places marks.now offers.now steps.old used.old }
     requires placed_len { length placed.old ≡ length marks.now }
-    ensures { (steps.new ≡ step_given number reserved.now marks.now (considers_by offers.now steps.old code) positions steps.old)
-        × (numbers_in result ≡ step_numbers reserved.now marks.now (considers_by offers.now steps.old code) positions)
-        × (first ≡ true → used.new ≡ step_types reserved.now marks.now (considers_by offers.now steps.old code) used.old) }
+    ensures { (steps.new ≡ step_given number (take types rule.now.reserved) marks.now (considers_by offers.now steps.old (code_of rule.now.category)) positions steps.old)
+        × (result ≡ step_numbers (take types rule.now.reserved) marks.now (considers_by offers.now steps.old (code_of rule.now.category)) positions)
+        × (first ≡ true → used.new ≡ step_types (take types rule.now.reserved) marks.now (considers_by offers.now steps.old (code_of rule.now.category)) used.old) }
 {
-    clear(placed, marks.len());
-    let count = take_typed(first, reserved, marks, offers, steps, code, placed);
-    let free = left_of(positions, count);
-    let merit = fill(free, number, offers, code, placed, steps, used);
-    let vacant = left_of(free, merit.filled);
+    let reserved = &rule.reserved[..types];
+    placed.fill(0);
+    let count = take_typed(first, reserved, marks, offers, steps, rule.category, placed);
+    let free = positions.saturating_sub(count);
+    let merit = fill(free, number, offers, rule.category, placed, steps, used);
+    let vacant = free.saturating_sub(merit.filled);
     Numbers {
         positions,
         used: count,

@@ -3,6 +3,7 @@ pub mod Counts
 pub mod DoubleSums
 pub mod FirstNumber
 pub mod Gathered
+pub mod Iterators
 pub mod Joined
 pub mod Last
 pub mod Pieces

@@ -1,17 +1,14 @@
 -- Laws of the words of specs/Lists.antt, and of tests.
-use Prim.Native.Nat.{ℕ, zero, suc, ◌+◌, ◌*◌, ◌-◌, ◌%◌, ◌^◌, ◌<◌, ◌≤◌}
+use Prim.Native.Nat.{ℕ, zero, suc, ◌+◌, ◌-◌, ◌<◌, ◌≤◌}
 use mathlib.Core.Path.{◌≡◌, refl, sym, ap, ◌∙◌}
-use mathlib.Core.Bool.{Bool, true, false, not, cond, ◌&&◌, ◌||◌}
+use mathlib.Core.Bool.{Bool, true, false, not, ◌&&◌}
 use mathlib.Core.Logic.{◌⊎◌, inl, inr, ⊎_elim}
-use mathlib.Core.List.{List, [], ◌∷◌, ◌++◌}
+use mathlib.Core.List.{List}
 use native.Mathlib.Omega.{arith}
-use native.Mathlib.Numerals.{add-one}
 use native.Mathlib.Nat.{add-zero, add-suc, suc-add, zero-add}
-use borrow.Author.Tests.{not-true, not-false, le-leb, lt-leb}
-use Rattle.lists.specs.Numbers.{word}
+use borrow.Author.Tests.{not-true, not-false}
 use Rattle.lists.specs.Numbers.{within}
-use lib.Dec.{leb, ltb}
-use lib.ListN.{length, get_or, take, drop, replicate, length-append, length-replicate, length-drop}
+use lib.ListN.{length, get_or, take, drop, length-drop}
 use lib.Seq.{take_all}
 use Rattle.lists.specs.Lists.{tabulate, tabulate_from, list_sum, sum_of, all_of, apart}
 
@@ -30,10 +27,6 @@ and_snd false b e = clash (sym e)
 pub and_no : (a b : Bool) → a && b ≡ false → a ≡ true → b ≡ false
 and_no true b e h = e
 and_no false b e h = clash (sym h)
-
-pub or_cases : (a b : Bool) → a || b ≡ true → (a ≡ true) ⊎ (b ≡ true)
-or_cases true b e = inl refl
-or_cases false b e = inr e
 
 -- what holds below a number and at it holds below the next
 pub below_suc : (P : ℕ → Type 0) (n : ℕ) → ((k : ℕ) → k < n → P k) → P n → (k : ℕ) → k < suc n → P k
@@ -74,10 +67,6 @@ pub from_same : {A : Type 0} (i n : ℕ) (f g : ℕ → A) → ((p : ℕ) → p 
 from_same i zero f g h = refl
 from_same i (suc n) f g h = rw (h i (omega arith), from_same (suc i) n f g (λ p l. h p (omega arith)))
 
-pub append_none : (s : List ℕ) → s ++ [] ≡ s
-append_none [] = refl
-append_none (x ∷ s) = ap (λ (t : List ℕ). x ∷ t) (append_none s)
-
 -- the sum of f s, .., n in all, with the first taken apart
 pub sum_of_front : (n : ℕ) (f : ℕ → ℕ) → sum_of (suc n) f ≡ f 0 + sum_of n (λ i. f (suc i))
 sum_of_front zero f = refl
@@ -92,10 +81,6 @@ sum_tabulate_from s (suc n) f =
 pub sum_tabulate : (n : ℕ) (f : ℕ → ℕ) → list_sum (tabulate n f) ≡ sum_of n f
 sum_tabulate n f = sum_tabulate_from 0 n f ∙ simp zero-add
 
--- the number that two bytes make, as code reads them
-pub word_read : (s : List ℕ) (i : ℕ) {x y : ℕ} → x ≡ get_or s i 0 → y ≡ get_or s (i + 1) 0 → x + 256 * y ≡ word s i
-word_read s i {x} {y} e d = omega (arith, rw add-one at d)
-
 -- tests of a number that code has read
 pub within_no : (low high : ℕ) {x y : ℕ} {r : Bool} → x ≡ y → r ≡ within low high x → not r ≡ true → within low high y ≡ false
 within_no low high {x} {y} {r} e f n = rw e at (sym f ∙ not-true r n)
@@ -103,23 +88,7 @@ within_no low high {x} {y} {r} e f n = rw e at (sym f ∙ not-true r n)
 pub within_yes : (low high : ℕ) {x y : ℕ} {r : Bool} → x ≡ y → r ≡ within low high x → not r ≡ false → within low high y ≡ true
 within_yes low high {x} {y} {r} e f n = rw e at (sym f ∙ not-false r n)
 
-pub leb_no : (most : ℕ) {x y : ℕ} → x ≡ y → most < x → leb y most ≡ false
-leb_no most {x} {y} e l = lt-leb y most (omega arith)
-
-pub leb_yes : (most : ℕ) {x y : ℕ} → x ≡ y → x ≤ most → leb y most ≡ true
-leb_yes most {x} {y} e l = le-leb y most (omega arith)
-
--- a loop that sums f 0, f 1, ..: one turn, and the end
-pub sum_step : (f : ℕ → ℕ) (i : ℕ) {s v : ℕ} → s ≡ sum_of i f → v ≡ f i → s + v ≡ sum_of (i + 1) f
-sum_step f i {s} {v} e d = rw add-one (omega arith)
-
-pub sum_end : (f : ℕ → ℕ) {i n s : ℕ} → i ≤ n → n ≤ i → s ≡ sum_of i f → s ≡ sum_of n f
-sum_end f {i} {n} {s} l m e = let q : i ≡ n = omega arith in rw q at e
-
--- a loop that tests f 0, f 1, ..: one turn, a test that fails, and the end
-pub all_step : (f : ℕ → Bool) (i : ℕ) → all_of i f ≡ true → f i ≡ true → all_of (i + 1) f ≡ true
-all_step f i e d = rw (add-one, d) e
-
+-- one number that fails the test
 pub all_no : (n : ℕ) (f : ℕ → Bool) (i : ℕ) → i < n → f i ≡ false → all_of n f ≡ false
 all_no n f i l d = go (all_of n f) refl
   where
@@ -127,86 +96,17 @@ all_no n f i l d = go (all_of n f) refl
     go true e = clash (sym (all_at n f e i l) ∙ d)
     go false e = e
 
-pub all_fails : (f : ℕ → Bool) {i m n : ℕ} → m ≡ n → i < m → f i ≡ false → false ≡ all_of n f
-all_fails f {i} {m} {n} e l d = sym (all_no n f i (rw e at l) d)
-
-pub all_end : (f : ℕ → Bool) {i m n : ℕ} → m ≡ n → i ≤ m → m ≤ i → all_of i f ≡ true → true ≡ all_of n f
-all_end f {i} {m} {n} e l k d = let q : i ≡ n = omega arith in sym (rw q at d)
-
 -- the end of a loop that counts up
 pub reached : {A : Type 0} (f : ℕ → A) {i n : ℕ} {x : A} → i ≤ n → n ≤ i → f i ≡ x → x ≡ f n
 reached f {i} {n} {x} l m e = let q : i ≡ n = omega arith in sym (rw q at e)
 
--- a test of two numbers that code has read
-pub leb_both_no : {a b x y : ℕ} → x ≡ a → y ≡ b → y < x → leb a b ≡ false
-leb_both_no {a} {b} {x} {y} e d l = lt-leb a b (omega arith)
-
-pub leb_both_yes : {a b x y : ℕ} → x ≡ a → y ≡ b → x ≤ y → leb a b ≡ true
-leb_both_yes {a} {b} {x} {y} e d l = le-leb a b (omega arith)
-
-pub ltb_both : {a b x y : ℕ} → x ≡ a → y ≡ b → ltb x y ≡ ltb a b
-ltb_both {a} {b} {x} {y} e d = cc
-
 -- a test by the flag that code has for it
-pub was_no : {b r : Bool} → r ≡ b → not r ≡ true → b ≡ false
-was_no {b} {r} e d = sym e ∙ not-true r d
-
 pub was_yes : {b r : Bool} → r ≡ b → not r ≡ false → b ≡ true
 was_yes {b} {r} e d = sym e ∙ not-false r d
 
-pub not_yes : {b r : Bool} → r ≡ b → r ≡ true → not b ≡ false
-not_yes e d = ap not (sym e ∙ d)
-
-pub not_no : {b r : Bool} → r ≡ b → r ≡ false → not b ≡ true
-not_no e d = ap not (sym e ∙ d)
-
--- a mark's place value, as the code computes it
-pub power : (t : ℕ) → t ≤ 8 → 1 * 2 ^ t % 18446744073709551616 ≡ 2 ^ t
-power zero l = refl
-power (suc zero) l = refl
-power (suc (suc zero)) l = refl
-power (suc (suc (suc zero))) l = refl
-power (suc (suc (suc (suc zero)))) l = refl
-power (suc (suc (suc (suc (suc zero))))) l = refl
-power (suc (suc (suc (suc (suc (suc zero)))))) l = refl
-power (suc (suc (suc (suc (suc (suc (suc zero))))))) l = refl
-power (suc (suc (suc (suc (suc (suc (suc (suc zero)))))))) l = refl
-power (suc (suc (suc (suc (suc (suc (suc (suc (suc t))))))))) l = absurd (omega arith)
-
--- both tests of an entry
-pub and_false : {a : Bool} (b : Bool) → a ≡ false → false ≡ a && b
-and_false b e = rw e
-
-pub and_true : {a b c : Bool} → a ≡ true → c ≡ b → c ≡ a && b
-and_true e d = rw e d
-
-pub or_true : {a : Bool} (b : Bool) → a ≡ true → true ≡ a || b
-or_true b e = rw e
-
-pub or_false : {a b : Bool} → a ≡ false → b ≡ a || b
-or_false e = rw e
-
--- several tests of one question
-pub both_no : {a : Bool} (b : Bool) → a ≡ false → a && b ≡ false
-both_no b e = rw e
-
-pub both_next : {a b : Bool} → a ≡ true → b ≡ false → a && b ≡ false
-both_next e d = rw e d
-
+-- two tests that are passed
 pub both_yes : {a b : Bool} → a ≡ true → b ≡ true → a && b ≡ true
 both_yes e d = rw e d
-
--- the cases of a test: of a question, the next ones count where its answer is yes
-pub cond_yes : {A : Type 0} {b : Bool} {z : A} (x y : A) → b ≡ true → z ≡ x → z ≡ cond b x y
-cond_yes x y e d = rw e d
-
-pub cond_no : {A : Type 0} {b : Bool} {z : A} (x y : A) → b ≡ false → z ≡ y → z ≡ cond b x y
-cond_no x y e d = rw e d
-
--- a table that was cleared as far as it goes
-pub cleared : (n : ℕ) (rest after : List ℕ) → after ≡ replicate n 0 ++ rest → length after ≡ n → after ≡ replicate n 0
-cleared n [] after e many = e ∙ append_none (replicate n 0)
-cleared n (x ∷ rest) after e many = absurd (omega (arith, simp (length-append, length-replicate) at (ap length e)))
 
 -- the part of a list behind its first two, as long as it is
 pub rest_whole : (s : List ℕ) → take (length s - 2) (drop 2 s) ≡ drop 2 s

@@ -3,8 +3,8 @@ use Prim.Native.Nat.{ℕ, ◌+◌, ◌≤◌, ◌<◌}
 use mathlib.Core.Path.{◌≡◌, refl, sym, ◌∙◌}
 use mathlib.Core.List.{List}
 use native.Mathlib.Omega.{arith}
-use lib.ListN.{length, get_or, set, take, length-set}
-use lib.Seq.{get_or-set_same, get_or-set_other, get_or-take, ext_get_or, length-take-le}
+use lib.ListN.{length, get_or, set, length-set}
+use lib.Seq.{get_or-set_same, get_or-set_other, ext_get_or}
 use Rattle.lists.specs.Lists.{tabulate}
 use Rattle.lists.proofs.Words.{length_tabulate, tabulate_at}
 use Rattle.lists.proofs.Counting.{same_or}
@@ -35,7 +35,7 @@ keep l₀ l F p k e = record {
 }
 
 -- all is written
-pub all_written : (l₀ l m : List ℕ) (F : ℕ → ℕ) (p : ℕ) → Written l₀ l F p → length l₀ ≤ p → length m ≡ length l₀
+all_written : (l₀ l m : List ℕ) (F : ℕ → ℕ) (p : ℕ) → Written l₀ l F p → length l₀ ≤ p → length m ≡ length l₀
     → ((q : ℕ) → q < length l₀ → F q ≡ get_or m q 0) → l ≡ m
 all_written l₀ l m F p k all len same =
     ext_get_or 0 l m (k.sized ∙ sym len)
@@ -45,9 +45,3 @@ pub tabulated : (l₀ l : List ℕ) (F : ℕ → ℕ) (p : ℕ) → Written l₀
 tabulated l₀ l F p k all =
     all_written l₀ l (tabulate (length l₀) F) F p k all (length_tabulate 0 (length l₀) F)
     (λ q b. sym (tabulate_at (length l₀) F 0 q b))
-
--- the front of one list is another
-pub front_copied : (l m : List ℕ) → length m ≤ length l → ((q : ℕ) → q < length m → get_or l q 0 ≡ get_or m q 0) → take (length m) l ≡ m
-front_copied l m fits same =
-    let sized = length-take-le (length m) l fits in
-    ext_get_or 0 _ m sized (λ q b. let low : q < length m = omega arith in get_or-take (length m) l q 0 low ∙ same q low)

@@ -1,5 +1,4 @@
-// Numbers, lists and counts: small functions on bytes and tables, and the laws that every layer above shares.
+// The number that two bytes make, and the laws of lists and counts that every layer above shares.
 #![tactic(auto)]
 
-pub mod clearing;
 pub mod word;

@@ -4,7 +4,7 @@ use mathlib.Core.Bool.{true, ◌||◌}
 use mathlib.Core.Logic.{◌⊎◌, inl, inr}
 use Prim.Native.Nat.{ℕ, ◌≤◌, ◌<◌}
 use native.Mathlib.Omega.{arith}
-use Rattle.lists.proofs.Words.{or_cases}
+use Rattle.std.proofs.lemmas.Bool.{or_cases}
 use Rattle.lists.proofs.Counting.{or_right}
 use Rattle.market.proofs.Laws.{◌⊆◌, Contracts, Market}
 use Rattle.market.proofs.Rows.{Rows, State, offers, offered, tried}

@@ -2,15 +2,21 @@
 use Prim.Native.Nat.{ℕ, zero, suc, ◌+◌, ◌≤◌, ◌<◌}
 use mathlib.Core.Path.{◌≡◌, refl, sym, ◌∙◌, ap}
 use mathlib.Core.Bool.{Bool, true, false, cond}
-use mathlib.Core.Logic.{◌≢◌}
 use mathlib.Core.List.{List, [], ◌∷◌}
 use native.Mathlib.Omega.{arith}
-use lib.Dec.{eqb}
 use lib.ListN.{length, get_or}
-use borrow.Author.Tests.{eq-eqb, ne_eqb}
-use Rattle.round.specs.declared.entry.Category.{Category}
+use denote.Ref.{Bor}
+use denote.Param.Members.{Mut}
+use Rattle.std.specs.Bool.{⊤}
+use Rattle.std.specs.Fn.{CalledAt}
+use Rattle.std.specs.Iterator.{YieldsThen}
+use Rattle.std.specs.List.{FoldsTo}
+use Rattle.std.specs.Option.{MatchOption, unwrap_or}
+use Rattle.std.specs.Prelude.{Option, Some, None}
+use Rattle.std.specs.declared.ops.Range.{Range}
+use Rattle.std.proofs.iter.Yields.{nat_range_steps}
+use Rattle.std.proofs.lemmas.Iterator.{first_from_Range}
 use Rattle.round.specs.declared.entry.Entry.{Entry}
-use Rattle.round.specs.Category.{code_of}
 use Rattle.lists.specs.Lists.{first_from, first_of}
 use Rattle.round.specs.Places.{no_entry}
 use Rattle.lists.proofs.Counting.{clash, same_or}
@@ -57,15 +63,6 @@ from_suc s (suc n) f = rw (from_suc (suc s) n f) (go (f (suc s)))
     go true = refl
     go false = refl
 
--- the code's test of an entry that it has read
-module _ {x e : Entry} (number : ℕ) (category : Category) (reads : x ≡ e) where
-  pub entry_same : {a b : ℕ} → x.institute ≡ number → a ≡ code_of x.category → b ≡ code_of category
-      → eqb a b ≡ same_entry e (record { institute = number; category = category })
-  entry_same d ea eb = rw (ea, eb, ← reads, eq-eqb x.institute number d)
-
-  pub entry_other : x.institute ≢ number → eqb x.institute number ≡ same_entry e (record { institute = number; category = category })
-  entry_other d = rw (← reads, ne_eqb x.institute number d)
-
 -- the rank of an entry is the first place in the row with that entry
 pub rank_first : (row : List Entry) (e : Entry) → rank_in row e ≡ first_of (length row) (λ k. same_entry (get_or row k no_entry) e)
 unfolding rank_in
@@ -73,10 +70,26 @@ rank_first [] e = refl
 rank_first (x ∷ row) e =
     ap (cond (same_entry x e) 0) (ap suc (rank_first row e) ∙ sym (from_suc 0 (length row) (λ k. same_entry (get_or (x ∷ row) k no_entry) e)))
 
--- by a search of the row
-module _ (row : List Entry) (e : Entry) {k : ℕ} (over : PassedOver (λ k. same_entry (get_or row k no_entry) e) k) where
-  pub rank_found : {n : ℕ} {b : Bool} → n ≡ length row → k < n → b ≡ same_entry (get_or row k no_entry) e → b ≡ true → k ≡ rank_in row e
-  rank_found en l told t = found (λ k. same_entry (get_or row k no_entry) e) over {n = length row} (omega arith) told t ∙ sym (rank_first row e)
+-- `(0..m).find(f)`, where the closure computes the test, and n is what the definition calls m
+module _ {F : Type 0} {g : Mut F (Bor ℕ × Unit {0}) Bool} {m n : ℕ} (test : ℕ → Bool) (u : Range ℕ) (f : F) (r : Option ℕ) where
+  -- it finds the first number that passes, or none where none below n does
+  pub find_in_range : m ≡ n
+      → (xs : List ℕ) × (j : F) × YieldsThen nat_range_steps (record { start = 0; end = m }) xs r u × FoldsTo (λ p x q. CalledAt g p x false q) f xs j × MatchOption r ⊤ (λ x. (h : F) × CalledAt g j x true h)
+      → ((x : ℕ) (b : Bool) (q : F) → CalledAt g f x b q → (q ≡ f) × (b ≡ test x)) → MatchOption r (first_of n test ≡ n) (λ i. (i < n) × (i ≡ first_of n test))
+  find_in_range e ran step =
+      rw (sym e) (go r (first_from_Range _ u f r (λ x. test x ≡ true) (λ x. test x ≡ false) ran (λ x q k. sym (step x true q k).1) (λ x q k. ((step x false q k).0, sym (step x false q k).1))))
+    where
+      go : (r : Option ℕ)
+          → MatchOption r ((k : ℕ) → 0 ≤ k → k < m → test k ≡ false) (λ i. (0 ≤ i) × (i < m) × (test i ≡ true) × ((k : ℕ) → 0 ≤ k → k < i → test k ≡ false))
+          → MatchOption r (first_of m test ≡ m) (λ i. (i < m) × (i ≡ first_of m test))
+      go None h = first_none m test (λ k l. h k (omega arith) l)
+      go (Some i) h = (h.1, found test (record { fails = λ p l. h.3 p (omega arith) l }) h.1 refl h.2)
 
-  pub rank_nowhere : {n : ℕ} → n ≡ length row → n ≤ k → n ≡ rank_in row e
-  rank_nowhere en l = en ∙ none_found (λ k. same_entry (get_or row k no_entry) e) over (omega arith) ∙ sym (rank_first row e)
+  pub find_or_end : m ≡ n
+      → (xs : List ℕ) × (j : F) × YieldsThen nat_range_steps (record { start = 0; end = m }) xs r u × FoldsTo (λ p x q. CalledAt g p x false q) f xs j × MatchOption r ⊤ (λ x. (h : F) × CalledAt g j x true h)
+      → ((x : ℕ) (b : Bool) (q : F) → CalledAt g f x b q → (q ≡ f) × (b ≡ test x)) → unwrap_or r m ≡ first_of n test
+  find_or_end e ran step = go r (find_in_range e ran step)
+    where
+      go : (r : Option ℕ) → MatchOption r (first_of n test ≡ n) (λ i. (i < n) × (i ≡ first_of n test)) → unwrap_or r m ≡ first_of n test
+      go None h = e ∙ sym h
+      go (Some i) h = h.1

@@ -1,4 +1,5 @@
 pub mod FirstFound
+pub mod Pairs
 pub mod InRow
 pub mod Rounds
 pub mod Known

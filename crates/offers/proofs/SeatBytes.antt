@@ -22,27 +22,6 @@ seat_within Wide n i l = omega arith
 pub seat_inside : (form : Form) {size n i : ℕ} → size ≡ seat_width form * n → i < n → seat_width form * i + seat_width form ≤ size
 seat_inside form {n = n} {i = i} e l = rw e (seat_within form n i l)
 
--- the seats of a round have at most 2,048 bytes
-pub seats_most : (form : Form) (n : ℕ) → n ≤ 512 → seat_width form * n ≤ 2048
-seats_most Narrow n l = omega arith
-seats_most Wide n l = omega arith
-
--- in a narrow file it has two bytes, in a wide one four
-module _ {form : Form} (i size : ℕ) (inside : seat_width form * i + seat_width form ≤ size) where
-  pub narrow_bytes : form ≡ Narrow → 2 * i + 2 ≤ size
-  narrow_bytes e = rw e at inside
-
-  pub narrow_first : form ≡ Narrow → 2 * i < size
-  narrow_first e = omega (arith, narrow_bytes e)
-
-  pub narrow_second : form ≡ Narrow → 2 * i + 1 < size
-  narrow_second e = omega (arith, narrow_bytes e)
-
-  pub wide_bytes : form ≡ Wide → 4 * i + 4 ≤ size
-  wide_bytes e = rw e at inside
-
-  pub wide_first : form ≡ Wide → 4 * i + 2 ≤ size
-  wide_first e = omega (arith, wide_bytes e)
-
-  pub wide_second : form ≡ Wide → 4 * i + 2 + 2 ≤ size
-  wide_second e = omega (arith, wide_bytes e)
+-- in a wide file it has four bytes
+pub wide_bytes : {form : Form} (i size : ℕ) → seat_width form * i + seat_width form ≤ size → form ≡ Wide → 4 * i + 4 ≤ size
+wide_bytes i size inside e = rw e at inside

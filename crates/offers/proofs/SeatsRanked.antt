@@ -1,21 +1,21 @@
 -- Where a listed seat stands in its holder's row, by the bytes of the list.
 use Prim.Native.Nat.{ℕ, suc, ◌+◌, ◌*◌, ◌-◌, ◌≤◌, ◌<◌}
-use mathlib.Core.Path.{◌≡◌, refl, sym, ◌∙◌, ap}
+use mathlib.Core.Path.{◌≡◌, sym, ◌∙◌, ap}
 use mathlib.Core.Bool.{Bool, true, false, not, and-false}
 use mathlib.Core.List.{List}
 use native.Mathlib.Omega.{arith}
-use lib.Dec.{leb, ltb}
+use lib.Dec.{ltb}
 use lib.ListN.{length}
-use borrow.Author.Tests.{leb-true, not-false}
 use Rattle.round.specs.declared.entry.Category.{Category}
-use Rattle.reader.specs.declared.opened.Opened.{Opened}
+use Rattle.questions.specs.declared.head.Head.{Head as CodeHead}
+use Rattle.reader.specs.declared.change.Change.{Change}
 use Rattle.questions.specs.declared.form.Form.{Form}
 use Rattle.questions.specs.Form.{seat_width}
 use Rattle.lists.specs.Numbers.{within}
 use Rattle.round.specs.Round.{Round}
 use Rattle.round.specs.Places.{step_numbers}
-use Rattle.reader.specs.Opened.{opened_round}
-use Rattle.lists.proofs.Words.{and_fst, and_snd, within_no, within_yes, tabulate_at}
+use Rattle.reader.specs.Opened.{opened_round, OpenedFile}
+use Rattle.lists.proofs.Words.{within_no, within_yes, tabulate_at}
 use Rattle.offers.specs.Rows.{row_at, rank_in, category_at}
 use Rattle.offers.specs.Process.{Seat, institute_count, no_seat, candidate_count}
 use Rattle.offers.specs.Areas.{seat_in, seats_in}
@@ -41,45 +41,31 @@ step_rank r i s t =
     let number : suc (s.institute - 1) ≡ s.institute = omega (arith, step_numbers_lem r s t) in
     rw (t, number)
 
--- a number between 1 and another, as the code has tested it
-module _ (last number : ℕ) {a : Bool} (told : a ≡ within 1 last number) (t : not a ≡ false) where
-  passed : within 1 last number ≡ true
-  passed = sym told ∙ not-false a t
-
-  pub tested_least : 1 ≤ number
-  tested_least = leb-true 1 number (and_fst _ _ passed)
-
-  pub tested_most : {most : ℕ} → last ≡ most → number ≤ most
-  tested_most e = rw e at (leb-true number last (and_snd (leb 1 number) _ passed))
-
-  pub tested_inside : number - 1 < last
-  tested_inside = omega (arith, tested_least, tested_most refl)
-
-module _ {file : List ℕ} {o : Opened} {row starts list : List ℕ} (at : UnderReview file o row starts list) {i : ℕ} (inside : i < o.head.candidates) where
+module _ {file : List ℕ} {h : CodeHead} {change : Change} {row starts list : List ℕ} (hand : OpenedFile file h change row starts) (at : UnderReview h list) {i : ℕ} (inside : i < h.candidates) where
   abbrev r : Round
-  r = opened_round file o row
+  r = opened_round file change row
 
   abbrev seats : List Seat
-  seats = list_of o.head.form r list
+  seats = list_of h.form r list
 
   -- the bytes of the seat stand in the list
-  pub bytes_inside : (i < 512) × (seat_width o.head.form * i + seat_width o.head.form ≤ length list)
-  bytes_inside = (omega (arith, candidates_few at.hand), seat_inside o.head.form at.size inside)
+  pub bytes_inside : (i < 512) × (seat_width h.form * i + seat_width h.form ≤ length list)
+  bytes_inside = (omega (arith, candidates_few hand), seat_inside h.form at.size inside)
 
-  pub bytes_seat : seat_on seats i ≡ seat_in o.head.form list i
-  bytes_seat = seat_at o.head.form r list i (omega (arith, candidates_many at.hand))
+  pub bytes_seat : seat_on seats i ≡ seat_in h.form list i
+  bytes_seat = seat_at h.form r list i (omega (arith, candidates_many hand))
 
   -- by what the code has read of the seat's institute and tested
-  module _ {number : ℕ} {a : Bool} (reads : number ≡ (seat_in o.head.form list i).institute) (told : a ≡ within 1 o.head.institutes number) where
+  module _ {number : ℕ} {a : Bool} (reads : number ≡ (seat_in h.form list i).institute) (told : a ≡ within 1 h.institutes number) where
     -- it is none of the round
     pub above_no_institute : not a ≡ true → {x : ℕ} → x ≡ length (row_at r i) → x ≡ above r seats i
     unfolding above is_step
     above_no_institute f e =
-        e ∙ sym (rank_none r i (seat_on seats i) (rw (bytes_seat, institutes_many at.hand, within_no 1 o.head.institutes reads told f)))
+        e ∙ sym (rank_none r i (seat_on seats i) (rw (bytes_seat, institutes_many hand, within_no 1 h.institutes reads told f)))
 
     -- and of its step
     module _ {last step : ℕ} {b : Bool} (last-is : last ≡ step_numbers r (number - 1))
-        (reads-step : step ≡ (seat_in o.head.form list i).step) (told-step : b ≡ within 1 last step) where
+        (reads-step : step ≡ (seat_in h.form list i).step) (told-step : b ≡ within 1 last step) where
       -- it is none of the institute
       pub above_no_step : not b ≡ true → {x : ℕ} → x ≡ length (row_at r i) → x ≡ above r seats i
       unfolding above is_step
@@ -94,8 +80,8 @@ module _ {file : List ℕ} {o : Opened} {row starts list : List ℕ} (at : Under
           let named : is_step r (seat_on seats i) ≡ true =
           rw (
             bytes_seat,
-            institutes_many at.hand,
-            within_yes 1 o.head.institutes reads told t,
+            institutes_many hand,
+            within_yes 1 h.institutes reads told t,
             ← reads,
             ← last-is,
             within_yes 1 last reads-step told-step u,

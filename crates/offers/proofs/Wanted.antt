@@ -7,7 +7,8 @@ use native.Mathlib.Omega.{arith}
 use lib.ListN.{length, get_or, set, length-set}
 use lib.Seq.{get_or-set_same, get_or-set_other}
 use Rattle.round.specs.declared.entry.Category.{Category}
-use Rattle.reader.specs.declared.opened.Opened.{Opened}
+use Rattle.questions.specs.declared.head.Head.{Head as CodeHead}
+use Rattle.reader.specs.declared.change.Change.{Change}
 use Rattle.round.specs.Category.{code_of}
 use Rattle.round.specs.Round.{Round}
 use Rattle.round.specs.Sound.{Sound}
@@ -27,9 +28,6 @@ use Rattle.offers.proofs.Rounds.SeatOffers.{seated_at}
 use Rattle.offers.proofs.Known.{candidates_many, institutes_many, round_sound}
 
 -- the sets of the steps' categories, one candidate after the other
-pub none_wanted : (r : Round) (holders steps wanted : List ℕ) → length wanted ≡ length steps → SeatsWanted r 0 holders steps wanted
-none_wanted r holders steps wanted each = record { many = each; at = λ i j l. absurd (omega arith) }
-
 module _ {r : Round} {holders steps wanted : List ℕ} {i : ℕ} (w : SeatsWanted r i holders steps wanted) where
   -- the next has no holder
   pub one_unseated : {x : ℕ} → x ≡ get_or holders i 0 → x ≡ 0 → {wanted' : List ℕ} → wanted' ≡ wanted → SeatsWanted r (i + 1) holders steps wanted'
@@ -60,23 +58,23 @@ pub wanted_same : {r : Round} {k : ℕ} {holders steps wanted wanted' : List ℕ
 wanted_same e w = rw e w
 
 -- the arrays that hold the list of the round have a place for each candidate
-module _ {file : List ℕ} {o : Opened} {row starts : List ℕ} (hand : OpenedFile file o row starts) where
-  pub holders_each : {holders steps : List ℕ} → HeldIn (seats (opened_round file o row)) holders steps → length holders ≡ o.head.candidates
-  holders_each list = list.holders_many ∙ list_length (opened_round file o row) ∙ candidates_many hand
+module _ {file : List ℕ} {h : CodeHead} {change : Change} {row starts : List ℕ} (hand : OpenedFile file h change row starts) where
+  pub holders_each : {holders steps : List ℕ} → HeldIn (seats (opened_round file change row)) holders steps → length holders ≡ h.candidates
+  holders_each list = list.holders_many ∙ list_length (opened_round file change row) ∙ candidates_many hand
 
-  pub steps_each : {holders steps : List ℕ} → HeldIn (seats (opened_round file o row)) holders steps → length steps ≡ o.head.candidates
-  steps_each list = list.steps_many ∙ list_length (opened_round file o row) ∙ candidates_many hand
+  pub steps_each : {holders steps : List ℕ} → HeldIn (seats (opened_round file change row)) holders steps → length steps ≡ h.candidates
+  steps_each list = list.steps_many ∙ list_length (opened_round file change row) ∙ candidates_many hand
 
-  pub wanted_each : {k : ℕ} {holders steps wanted : List ℕ} → HeldIn (seats (opened_round file o row)) holders steps → SeatsWanted (opened_round file o row) k holders steps wanted → length wanted ≡ o.head.candidates
+  pub wanted_each : {k : ℕ} {holders steps wanted : List ℕ} → HeldIn (seats (opened_round file change row)) holders steps → SeatsWanted (opened_round file change row) k holders steps wanted → length wanted ≡ h.candidates
   wanted_each list wants = wants.many ∙ steps_each list
 
 -- two arrays hold the list of the round
-module _ {file : List ℕ} {o : Opened} {row starts : List ℕ} (hand : OpenedFile file o row starts)
-    {holders steps : List ℕ} (list : HeldIn (seats (opened_round file o row)) holders steps) where
+module _ {file : List ℕ} {h : CodeHead} {change : Change} {row starts : List ℕ} (hand : OpenedFile file h change row starts)
+    {holders steps : List ℕ} (list : HeldIn (seats (opened_round file change row)) holders steps) where
   abbrev r : Round
-  r = opened_round file o row
+  r = opened_round file change row
 
-  abbrev sound : Sound o.head.types (opened_round file o row)
+  abbrev sound : Sound h.types (opened_round file change row)
   sound = round_sound hand
 
   pub arrays_many : length holders ≡ length steps
@@ -107,7 +105,7 @@ module _ {file : List ℕ} {o : Opened} {row starts : List ℕ} (hand : OpenedFi
     at : (get_or steps i 0 ≡ step_in r (tried r) (number - 1) i) × (step_in r (tried r) (number - 1) i ≢ 0)
     at = seat_step i (number - 1) inside below (sym e ∙ sym holder)
 
-    pub seat_known : number - 1 < o.head.institutes
+    pub seat_known : number - 1 < h.institutes
     seat_known = omega (arith, below, institutes_many hand)
 
     pub seat_least : {step : ℕ} → step ≡ get_or steps i 0 → 1 ≤ step

@@ -2,6 +2,7 @@ pub mod Rows
 pub mod Offers
 pub mod Process
 pub mod Areas
+pub mod AtHand
 pub mod Ended
 pub mod FirstTypes
 pub mod Held

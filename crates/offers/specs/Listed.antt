@@ -1,11 +1,10 @@
 -- A list of seats for the candidates of a round: which of the seats are in their holders' rows, and these as offers (document 02, Points 5 and 7).
 use Rattle.std.specs.Prelude.{ℕ, ◌*◌, ◌-◌, ◌^◌, ◌≤◌, ◌<◌, ◌≡◌, Bool, true, false, ◌&&◌, List, ltb, length, get_or}
 use Rattle.questions.specs.declared.form.Form.{Form}
-use Rattle.reader.specs.declared.opened.Opened.{Opened}
+use Rattle.questions.specs.declared.head.Head.{Head as CodeHead}
 use Rattle.round.specs.Category.{code_of}
 use Rattle.round.specs.Round.{Round}
 use Rattle.questions.specs.Form.{seat_width}
-use Rattle.reader.specs.Opened.{OpenedFile}
 use Rattle.offers.specs.Rows.{row_at, category_at}
 use Rattle.offers.specs.Offers.{OfferSet}
 use Rattle.offers.specs.Process.{Seat, candidate_count}
@@ -34,10 +33,9 @@ list_size form r = seat_width form * candidate_count r
 abbrev pub list_of : Form → Round → List ℕ → List Seat
 list_of form r list = seats_in form (candidate_count r) list
 
--- an opened round, and a list with a seat's bytes for each candidate
-pub record UnderReview (file : List ℕ) (o : Opened) (row starts list : List ℕ) : Type 0 where
-  pub hand : OpenedFile file o row starts
-  pub size : length list ≡ seat_width o.head.form * o.head.candidates
+-- a list with a seat's bytes for each candidate
+pub record UnderReview (h : CodeHead) (list : List ℕ) : Type 0 where
+  pub size : length list ≡ seat_width h.form * h.candidates
 
 -- of the first k candidates two tables have the seats that are in their rows, and of nobody else any
 pub record SeatsRead (r : Round) (list : List Seat) (k : ℕ) (asked wanted : List ℕ) : Type 0 where

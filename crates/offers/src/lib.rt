@@ -2,5 +2,6 @@
 #![tactic(auto)]
 
 pub mod list;
+pub mod listed;
 pub mod seats;
 pub mod write;

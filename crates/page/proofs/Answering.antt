@@ -1,7 +1,6 @@
 -- The page of an accepted file: its head is there, the page fits, and what is read off its answer area is the page of its round.
-use Prim.Native.Nat.{ℕ, ◌<◌, ◌≤◌}
+use Prim.Native.Nat.{ℕ, ◌+◌, ◌<◌, ◌≤◌}
 use mathlib.Core.Path.{◌≡◌, sym, ap, ap₂, ◌∙◌}
-use mathlib.Core.Bool.{Bool}
 use mathlib.Core.List.{List}
 use native.Mathlib.Omega.{arith}
 use lib.ListN.{length, get_or, take, drop, length-append}
@@ -20,8 +19,8 @@ use Rattle.offers.specs.Process.{candidate_count, institute_count}
 use Rattle.allotment.specs.Areas.{size_for, answer_bytes}
 use Rattle.offers.specs.Areas.{seat_in}
 use Rattle.allotment.proofs.Files.AreaSeats.{length_answer}
-use Rattle.text.specs.Put.{Fits, Put, Front}
-use Rattle.text.proofs.Putting.{front_put}
+use Rattle.text.specs.declared.Text.{Text}
+use Rattle.text.specs.Put.{Fits, Put}
 use Rattle.page.specs.Page.{page}
 use Rattle.page.specs.Reads.{page_in, Answered}
 use Rattle.page.proofs.Stands.{digits_few, page_stands}
@@ -57,40 +56,40 @@ module _ {file : List ℕ} {offers : ℕ} {answer : List ℕ} (known : Answered 
     pub institutes_most_is : h.institutes ≤ 1000
     institutes_most_is = omega (arith, range.institutes_most_is, institutes_few h.form)
 
-    seats_few : (i : ℕ) → i < h.candidates → ((seat_in form answer i).institute < 10000) × ((seat_in form answer i).step < 100)
+    same_form : h.form ≡ form_of file
+    same_form = ap (λ (k : Head). k.form) same_head
+
+    seats_few : (i : ℕ) → i < h.candidates → ((seat_in h.form answer i).institute < 10000) × ((seat_in h.form answer i).step < 100)
     seats_few i l =
-        rw (formed, known.stands)
+        rw (same_form, known.stands)
         (digits_few (form_of file) (round_of file) (sound file known.accepted) known.rest i (omega (arith, candidates_many)))
 
-    -- whether the institutes list their own steps
-    module _ {listed : Bool} (told : listed ≡ own_steps (as_head h)) where
-      same_listed : listed ≡ (round_of file).steps_listed
-      same_listed = told ∙ ap own_steps same_head ∙ sym (listed_round file)
+    same_listed : own_steps (as_head h) ≡ (round_of file).steps_listed
+    same_listed = ap own_steps same_head ∙ sym (listed_round file)
 
-      pub answer_there : size_for form listed h.candidates h.institutes ≤ length answer
-      answer_there =
-          rw (formed, same_listed, candidates_many, institutes_many)
-          (omega (
-            arith,
-            ap length known.stands,
-            length-append (answer_bytes (form_of file) (round_of file)) known.rest,
-            length_answer (form_of file) (round_of file),
-          ))
-
-      pub page_fits : {area : List ℕ} → 94208 ≤ length area → val.Fits w64 offers → ((i : ℕ) → val.Fits w8 (get_or answer i 0))
-          → Fits area 0 (page_in form listed offers h.candidates h.institutes answer)
-      page_fits l few bytes = record {
-        room = omega (
+    pub answer_there : size_for h.form (own_steps (as_head h)) h.candidates h.institutes ≤ length answer
+    answer_there =
+        rw (same_form, same_listed, candidates_many, institutes_many)
+        (omega (
           arith,
-          page_short answer (λ i. omega (arith, bytes i)) form listed candidates_most institutes_most_is seats_few offers (omega arith),
-        );
-      }
+          ap length known.stands,
+          length-append (answer_bytes (form_of file) (round_of file)) known.rest,
+          length_answer (form_of file) (round_of file),
+        ))
 
-      page_read : page_in form listed offers h.candidates h.institutes answer ≡ page (round_of file)
-      page_read =
-          rw (formed, same_listed, known.counted, candidates_many, institutes_many, known.stands)
-          (page_stands (form_of file) (round_of file) (sound file known.accepted) known.rest)
+    pub page_fits : {area : Text} → area.len + 94208 ≤ length area.area.now → val.Fits w64 offers → ((i : ℕ) → val.Fits w8 (get_or answer i 0))
+        → Fits area (page_in h.form (own_steps (as_head h)) offers h.candidates h.institutes answer)
+    page_fits l few bytes = record {
+      room = omega (
+        arith,
+        page_short answer (λ i. omega (arith, bytes i)) h.form (own_steps (as_head h)) candidates_most institutes_most_is seats_few offers (omega arith),
+      );
+    }
 
-      pub answered_front : {area now : List ℕ} {size : ℕ} → 94208 ≤ length area → val.Fits w64 offers → ((i : ℕ) → val.Fits w8 (get_or answer i 0))
-          → Put area 0 (page_in form listed offers h.candidates h.institutes answer) now size → Front area (page (round_of file)) now size
-      answered_front l few bytes p = rw page_read at (front_put (page_fits l few bytes) p)
+    page_read : page_in h.form (own_steps (as_head h)) offers h.candidates h.institutes answer ≡ page (round_of file)
+    page_read =
+        rw (same_form, same_listed, known.counted, candidates_many, institutes_many, known.stands)
+        (page_stands (form_of file) (round_of file) (sound file known.accepted) known.rest)
+
+    pub answered_put : {area now : Text} → Put area (page_in h.form (own_steps (as_head h)) offers h.candidates h.institutes answer) now → Put area (page (round_of file)) now
+    answered_put p = rw page_read at p

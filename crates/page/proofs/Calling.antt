@@ -1,5 +1,5 @@
 -- The answer of a call with areas for the largest round, as what is printed: it is allotted where the file passes, and else refused as the file is.
-use Prim.Native.Nat.{ℕ, ◌≤◌, ◌<◌}
+use Prim.Native.Nat.{ℕ, ◌+◌, ◌≤◌, ◌<◌}
 use mathlib.Core.Path.{◌≡◌, refl, sym, ap, ◌∙◌}
 use mathlib.Core.Bool.{Bool}
 use mathlib.Core.List.{List}
@@ -24,20 +24,25 @@ use Rattle.reader.specs.Calls.{Outcome, said, refused}
 use Rattle.allotment.specs.Outcome.{outcome_of, outcome}
 use Rattle.allotment.specs.Promise.{Promise}
 use Rattle.allotment.proofs.Files.Accepting.{outcome_refused, outcome_allotted, answer_written}
-use Rattle.text.specs.Put.{Fits, Put, Front}
-use Rattle.text.proofs.Putting.{front_put}
+use Rattle.text.specs.declared.Text.{Text}
+use Rattle.text.specs.Put.{Fits, Put}
 use Rattle.page.specs.Page.{refused_line, page, printed_by, printed_for, printed}
 use Rattle.page.specs.Reads.{Answered}
 use Rattle.page.proofs.Short.{refusal_short}
 use Rattle.page.proofs.Whole.{printed_long}
 
-pub refusal_fits : {area : List ℕ} (number offset : ℕ) → 94208 ≤ length area → val.Fits w64 number → val.Fits w64 offset → Fits area 0 (refused_line number offset)
+pub refusal_fits : {area : Text} (number offset : ℕ) → area.len + 94208 ≤ length area.area.now → val.Fits w64 number → val.Fits w64 offset → Fits area (refused_line number offset)
 refusal_fits number offset l few small = record { room = omega (arith, refusal_short number offset (omega arith) (omega arith)) }
 
 -- the largest round's answer has 26,560 bytes
 size_most : (form : Form) (listed : Bool) (n m : ℕ) → n ≤ 512 → m ≤ 1000 → size_for form listed n m ≤ 26560
 size_most Narrow listed n m l k = omega (arith, closings_few listed {m = m} refl k)
 size_most Wide listed n m l k = omega (arith, closings_few listed {m = m} refl k)
+
+-- an input that is read
+printed_read : (input : List ℕ) → length input ≤ 65536 → printed input ≡ printed_for input
+unfolding printed
+printed_read input l = rw (le-leb (length input) 65536 l)
 
 -- a call with areas for the largest round
 module _ {file answer work answerNow workNow : List ℕ} {told : Answer}
@@ -75,9 +80,9 @@ module _ {file answer work answerNow workNow : List ℕ} {told : Answer}
           stands = promise.answer_area ∙ answer_written file answer work offers as_allotted;
         }
 
-    pub printed_page : {area now : List ℕ} {size : ℕ} → Front area (page (round_of file)) now size → Front area (printed_for file) now size
+    pub printed_page : length file ≤ 65536 → {area now : Text} → Put area (page (round_of file)) now → Put area (printed file) now
     unfolding printed_for
-    printed_page p = rw accepted p
+    printed_page l p = rw (printed_read file l, accepted) p
 
   module _ {number offset : ℕ} (refuses : told ≡ Refused number offset) where
     as_refused : here ≡ refused number offset
@@ -89,17 +94,11 @@ module _ {file answer work answerNow workNow : List ℕ} {told : Answer}
         let z : ◌≡◌ {A = Outcome ℕ} (refused n o) (refused number offset) = sym (outcome_refused file (length answer) (length work) n o e) ∙ as_refused in
         cc
 
-    pub printed_line : {area now : List ℕ} {size : ℕ} → 94208 ≤ length area → val.Fits w64 number → val.Fits w64 offset
-        → Put area 0 (refused_line number offset) now size → Front area (printed_for file) now size
+    pub printed_line : length file ≤ 65536 → {area now : Text} → Put area (refused_line number offset) now → Put area (printed file) now
     unfolding printed_for
-    printed_line l few small p = rw (printed_refused (verdict file) refl) (front_put (refusal_fits number offset l few small) p)
+    printed_line l p = rw (printed_read file l, printed_refused (verdict file) refl) p
 
--- an input that is read
-pub printed_read : (input : List ℕ) {area now : List ℕ} {size : ℕ} → length input ≤ 65536 → Front area (printed_for input) now size → Front area (printed input) now size
-unfolding printed
-printed_read input l p = rw (le-leb (length input) 65536 l) p
-
--- one that is not
-pub printed_unread : (input : List ℕ) {area now : List ℕ} {size : ℕ} → 94208 ≤ length area → 65536 < length input → Put area 0 (refused_line 16 0) now size
-    → Front area (printed input) now size
-printed_unread input l m p = rw (printed_long input m) (front_put (refusal_fits 16 0 l (omega arith) (omega arith)) p)
+-- an input that is not read
+pub printed_unread : (input : List ℕ) {area now : Text} {number : ℕ} → 65536 < length input → number ≡ 16 → Put area (refused_line number 0) now
+    → Put area (printed input) now
+printed_unread input l e p = rw (printed_long input l) (rw e at p)

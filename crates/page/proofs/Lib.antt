@@ -1,4 +1,3 @@
-pub mod Parts
 pub mod Pieces
 pub mod Stands
 pub mod Short

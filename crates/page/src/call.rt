@@ -1,31 +1,19 @@
 // What is printed for an input.
-ghost use Rattle.std.specs.Prelude.{◌≡◌, ◌≤◌, length};
+ghost use Rattle.std.specs.Prelude.{◌≡◌, ◌+◌, ◌≤◌, length};
 ghost use Rattle.questions.specs.Reading.{round_of};
-ghost use Rattle.text.specs.Put.{Front};
-ghost use Rattle.page.specs.Page.{page as Page·page, printed_for, printed};
+ghost use Rattle.text.specs.Put.{Put, Front};
+ghost use Rattle.page.specs.Page.{page as Page·page, printed};
 ghost use Rattle.page.specs.Reads.{Answered};
 
 use crate::lines::put_refusal;
-use crate::reads::put_allotment;
+use crate::reads::Allotment;
 use allotment::{Answer, allot};
 use questions::form::form_of;
-use questions::head::{head_in, own_steps};
+use questions::head::head_in;
+use questions::question::Question;
+use text::Text;
 
-// The answer area of the largest round.
-fn answer_room() -> [u8; 26560]
-    ensures { length result ≡ 26560 }
-{
-    [0; 26560]
-}
-
-// The work area of the largest round.
-fn work_room() -> [u8; 4096]
-    ensures { length result ≡ 4096 }
-{
-    [0; 4096]
-}
-
-// Room for the longest page.
+// Room for the longest page; a function, since each program makes its room by it.
 pub fn page_room() -> [u8; 94208]
     ensures { length result ≡ 94208 }
 {
@@ -33,35 +21,30 @@ pub fn page_room() -> [u8; 94208]
 }
 
 // The page of a round that was allotted.
-fn put_answered(page: &mut [u8], file: &[u8], offers: usize, answer: &[u8]) -> usize
+fn put_answered(page: &mut Text<'_>, file: &[u8], offers: usize, answer: &[u8])
     requires answered { Answered file.now offers answer.now }
-    requires in_bounds { 94208 ≤ length page.old }
-    ensures { Front page.old (Page·page (round_of file.now)) page.new result }
+    requires in_bounds { page.old.len + 94208 ≤ length page.old.area.now }
+    ensures { Put page.old (Page·page (round_of file.now)) page.new }
 {
-    let form = form_of(file);
-    let h = head_in(&file[4..12], form);
-    put_allotment(
-        page,
-        form,
-        own_steps(h),
-        offers,
-        h.candidates,
-        h.institutes,
-        answer,
-    )
+    let head = head_in(&file[4..12], form_of(file));
+    let allotment = Allotment { head, answer };
+    allotment.put(page, offers);
 }
 
-// The page of a round file, or the line of its refusal.
-fn put_read(page: &mut [u8], file: &[u8]) -> usize
-    requires { 94208 ≤ length page.old }
-    ensures { Front page.old (printed_for file.now) page.new result }
+// What is printed for an input: its page, or the line of its refusal.
+fn put_printed(page: &mut Text<'_>, input: &[u8])
+    requires { page.old.len + 94208 ≤ length page.old.area.now }
+    ensures { Put page.old (printed input.now) page.new }
 {
-    let mut answer = answer_room();
-    let mut work = work_room();
-    let got = allot(file, &mut answer, &mut work);
-    match got {
-        Answer::Allotted(offers) => put_answered(page, file, offers, &answer),
-        Answer::Refused { number, offset } => put_refusal(page, 0, number, offset),
+    if 65536 < input.len() {
+        return put_refusal(page, Question::Input.number(), 0);
+    }
+    // The areas of the largest round.
+    let mut answer = [0; 26560];
+    let mut work = [0; 4096];
+    match allot(input, &mut answer, &mut work) {
+        Answer::Allotted(offers) => put_answered(page, input, offers, &answer),
+        Answer::Refused { number, offset } => put_refusal(page, number, offset),
     }
 }
 
@@ -70,8 +53,7 @@ pub fn put_page(page: &mut [u8], input: &[u8]) -> usize
     requires { 94208 ≤ length page.old }
     ensures { Front page.old (printed input.now) page.new result }
 {
-    if 65536 < input.len() {
-        return put_refusal(page, 0, 16, 0);
-    }
-    put_read(page, input)
+    let mut text = Text::new(page);
+    put_printed(&mut text, input);
+    text.len
 }

@@ -6,28 +6,25 @@ use mathlib.Core.Bool.{Bool, true, false}
 use mathlib.Core.List.{List, ◌++◌}
 use native.Mathlib.Omega.{arith}
 use lib.Dec.{eqb, ltb}
-use lib.ListN.{length, get_or, set, take, drop, replicate, length-set, length-replicate, get_or-replicate, get_or-eq_default}
-use lib.Seq.{get_or-set_other}
+use lib.ListN.{length, get_or, take, drop, replicate, length-replicate, get_or-replicate, get_or-eq_default}
 use borrow.Author.Tests.{eq-eqb, eqb-true, ne_eqb, lt-ltb, le-ltb, ltb-true}
 use Rattle.lists.specs.Lists.{count_of}
 use Rattle.lists.specs.Numbers.{holds}
 use Rattle.matching.specs.Use.{Placing}
 use Rattle.matching.specs.ForUse.{raises, taken_for_use}
 use Rattle.placing.specs.Left.{at_type, Left}
-use Rattle.placing.specs.Search.{Searching, Moved, Stuck, Searched}
+use Rattle.placing.specs.Search.{Searching, Moved, Stuck}
 use Rattle.placing.specs.Taken.{Without, AllExhausted, Attempted, Took}
 use Rattle.lists.proofs.Counting.{test, less_or, same_or, bit_true, bit_false, count_le}
 use Rattle.lists.proofs.Counts.{count_more, count_within, count_rest}
-use Rattle.lists.proofs.Tabulate.{get_or_zeros}
 use Rattle.matching.proofs.Use.{placed, PlacingTo, placed_raises}
 use Rattle.matching.proofs.Tight.{placed_blocked}
 use Rattle.matching.proofs.Taking.{taken_for_use_considered, taken_before_placed}
-use Rattle.placing.proofs.PositionsLeft.{one_taken}
 use Rattle.placing.proofs.FrontPlaces.{searching_front, attempted_all}
 
 -- just those taken below p have a type; left is what they leave of the positions; the exhausted types are full, and who is placed at one
--- holds exhausted types only; without more all types are exhausted
-pub record Down (reserved marks : List ℕ) (considered : ℕ → Bool) (left placed exhausted : List ℕ) (more : Bool) (n p : ℕ) : Type 0 where
+-- holds exhausted types only
+pub record Down (reserved marks : List ℕ) (considered : ℕ → Bool) (left placed exhausted : List ℕ) (n p : ℕ) : Type 0 where
   pub placing : Placing reserved marks placed
   pub positions : Left reserved left placed
   pub each : (q : ℕ) → q < p → taken_for_use reserved marks considered q ≡ ltb 0 (get_or placed q 0)
@@ -37,47 +34,6 @@ pub record Down (reserved marks : List ℕ) (considered : ℕ → Bool) (left pl
   pub closed : (q t u : ℕ) → 0 < get_or exhausted t 0 → get_or placed q 0 ≡ suc t → u < length reserved
       → holds (get_or marks q 0) u ≡ true → 0 < get_or exhausted u 0
   pub types : length exhausted ≡ 8
-  pub over : more ≡ false → AllExhausted (length reserved) exhausted
-
--- what a search says of the list that its visited types start from
-pub attempted_found : (reserved marks : List ℕ) {left left' v e v' b a : List ℕ} (c : ℕ) {r : Bool} → Searched reserved left' marks v v' b a c r → v ≡ e → r ≡ true → Left reserved left b
-    → Attempted reserved left left' marks e e b a c true
-attempted_found reserved marks {left} {left'} {v} {e} {v'} {b} {a} c s same r positions = record {
-  positions = s.positions;
-  found = λ t. subst (λ (l : List ℕ). Moved reserved marks l b a c) same (s.found r);
-  one = λ t. one_taken c positions s.positions (s.found r).ends;
-  spared = λ t. refl;
-  stuck = λ f. absurd (never f);
-}
-  where
-    never : true ≡ false → ⊥
-    never f = let z : ◌≡◌ {A = ℕ} 0 1 = cc in omega arith
-
-pub attempted_stuck : (reserved marks : List ℕ) {left left' v e v' e' b a : List ℕ} (c : ℕ) {r : Bool} → Searched reserved left' marks v v' b a c r → v ≡ e → e' ≡ v'
-    → r ≡ false → Attempted reserved left left' marks e e' b a c false
-attempted_stuck reserved marks {left} {left'} {v} {e} {v'} {e'} {b} {a} c s same copied r = record {
-  positions = s.positions;
-  found = λ t. absurd (never t);
-  one = λ t. absurd (never t);
-  spared = λ t. absurd (never t);
-  stuck = λ f.
-      subst (λ (l : List ℕ). Stuck reserved marks e l b a c) (sym copied)
-      (subst (λ (l : List ℕ). Stuck reserved marks l v' b a c) same (s.stuck r));
-}
-  where
-    never : false ≡ true → ⊥
-    never f = let z : ◌≡◌ {A = ℕ} 0 1 = cc in omega arith
-
--- types are exhausted one after the other
-pub none_without : (reserved : List ℕ) → Without reserved (replicate 8 0)
-none_without reserved = record { types = refl; none = λ t v. absurd (omega (arith, get_or_zeros 8 t)) }
-
-pub one_without : {reserved exhausted exhausted' : List ℕ} (t v : ℕ) → Without reserved exhausted → get_or reserved t 0 ≡ 0 → exhausted' ≡ set exhausted t v
-    → Without reserved exhausted'
-one_without {reserved} {exhausted} {exhausted'} t v w z e = record {
-  types = ap length e ∙ length-set exhausted t v ∙ w.types;
-  none = λ u l. same_or u t (λ same. rw same z) (λ other. w.none u (omega (arith, ap (λ (x : List ℕ). get_or x u 0) e, get_or-set_other exhausted t u v 0 other)));
-}
 
 pub no_type : (n : ℕ) (l : List ℕ) (q : ℕ) → l ≡ replicate n 0 → get_or l q 0 ≡ 0
 no_type n l q e =
@@ -89,9 +45,9 @@ module _ (reserved marks : List ℕ) (X : ℕ → Bool) where
   abbrev H : ℕ → Bool
   H = taken_for_use reserved marks X
 
-  pub top : (left placed exhausted : List ℕ) (more : Bool) → placed ≡ replicate (length marks) 0 → Left reserved left placed → Without reserved exhausted
-      → (more ≡ false → AllExhausted (length reserved) exhausted) → Down reserved marks X left placed exhausted more 0 0
-  top left placed exhausted more empty positions none over = record {
+  pub top : (left placed exhausted : List ℕ) → placed ≡ replicate (length marks) 0 → Left reserved left placed → Without reserved exhausted
+      → Down reserved marks X left placed exhausted 0 0
+  top left placed exhausted empty positions none = record {
     placing = record {
       each = ap length empty ∙ length-replicate (length marks) zero;
       held = λ i t l e. absurd (clash i t e);
@@ -104,18 +60,13 @@ module _ (reserved marks : List ℕ) (X : ℕ → Bool) where
     full = λ t v. omega (arith, none.none t v);
     closed = λ q t u v e. absurd (clash q t e);
     types = none.types;
-    over = over;
   }
     where
       clash : (q t : ℕ) → get_or placed q 0 ≡ suc t → ⊥
       clash q t e = omega (arith, no_type (length marks) placed q empty)
 
-  pub as_many : {placed₀ left placed exhausted : List ℕ} {more : Bool} {n p : ℕ} → Down reserved marks X left placed exhausted more n p → placed₀ ≡ replicate (length marks) 0
-      → length placed ≡ length placed₀
-  as_many d empty = omega (arith, d.placing.each, ap length empty, length-replicate (length marks) zero)
-
   -- the end of the list is reached
-  pub bottom : {left placed exhausted : List ℕ} {more : Bool} {n p : ℕ} → Down reserved marks X left placed exhausted more n p → p ≡ length marks → Took reserved left marks placed X n
+  pub bottom : {left placed exhausted : List ℕ} {n p : ℕ} → Down reserved marks X left placed exhausted n p → p ≡ length marks → Took reserved left marks placed X n
   bottom d end = record {
     placing = d.placing;
     positions = d.positions;
@@ -123,11 +74,11 @@ module _ (reserved marks : List ℕ) (X : ℕ → Bool) where
     number = d.number ∙ ap (λ (k : ℕ). count_of k H) end;
   }
 
-  module _ {left placed₀ exhausted : List ℕ} {more : Bool} {n p : ℕ} (inside : p < length marks) (d : Down reserved marks X left placed₀ exhausted more n p) where
+  module _ {left placed₀ exhausted : List ℕ} {n p : ℕ} (inside : p < length marks) (d : Down reserved marks X left placed₀ exhausted n p) where
     unplaced : ltb 0 (get_or placed₀ p 0) ≡ false
     unplaced = le-ltb 0 (get_or placed₀ p 0) (omega (arith, d.rest p (omega arith)))
 
-    not_considered : X p ≡ false → Down reserved marks X left placed₀ exhausted more n (p + 1)
+    not_considered : X p ≡ false → Down reserved marks X left placed₀ exhausted n (p + 1)
     not_considered out = record {
       placing = d.placing;
       positions = d.positions;
@@ -137,7 +88,6 @@ module _ (reserved marks : List ℕ) (X : ℕ → Bool) where
       full = d.full;
       closed = d.closed;
       types = d.types;
-      over = d.over;
     }
       where
         not_taken : H p ≡ false
@@ -157,7 +107,7 @@ module _ (reserved marks : List ℕ) (X : ℕ → Bool) where
         ∙ ap (λ (A : List ℕ). raises reserved A (get_or marks p 0)) (taken_before_placed reserved marks X (λ q. get_or l q 0) p each)
 
     moved : (left' placed' : List ℕ) → X p ≡ true → Left reserved left' placed' → Moved reserved marks exhausted placed₀ placed' p
-        → Down reserved marks X left' placed' exhausted more (n + 1) (p + 1)
+        → Down reserved marks X left' placed' exhausted (n + 1) (p + 1)
     moved left' placed' in-play positions m = record {
       placing = m.placing;
       positions = positions;
@@ -167,7 +117,6 @@ module _ (reserved marks : List ℕ) (X : ℕ → Bool) where
       full = λ t v. omega (arith, d.full t v, no_fewer t v);
       closed = λ q t u v e. d.closed q t u v (m.comes q t v e).0;
       types = d.types;
-      over = d.over;
     }
       where
         same : (q : ℕ) → q < p → H q ≡ ltb 0 (get_or placed' q 0)
@@ -193,11 +142,10 @@ module _ (reserved marks : List ℕ) (X : ℕ → Bool) where
             away : (q t : ℕ) → q ≡ p → get_or placed₀ q 0 ≡ suc t → ⊥
             away q t s e = omega (arith, d.rest q (omega arith))
 
-    stuck : (left' placed' exhausted' : List ℕ) (more' : Bool) → X p ≡ true → Left reserved left' placed'
-        → Stuck reserved marks exhausted exhausted' placed₀ placed' p → length exhausted' ≡ 8
-        → (more' ≡ false → AllExhausted (length reserved) exhausted') → Down reserved marks X left' placed' exhausted' more' n (p + 1)
-    stuck left' placed' exhausted' more' in-play positions s types over =
-        subst (λ (l : List ℕ). Down reserved marks X left' l exhausted' more' n (p + 1)) (sym s.same)
+    stuck : (left' placed' exhausted' : List ℕ) → X p ≡ true → Left reserved left' placed'
+        → Stuck reserved marks exhausted exhausted' placed₀ placed' p → length exhausted' ≡ 8 → Down reserved marks X left' placed' exhausted' n (p + 1)
+    stuck left' placed' exhausted' in-play positions s types =
+        subst (λ (l : List ℕ). Down reserved marks X left' l exhausted' n (p + 1)) (sym s.same)
         record {
           placing = d.placing;
           positions = rw (← s.same) positions;
@@ -207,7 +155,6 @@ module _ (reserved marks : List ℕ) (X : ℕ → Bool) where
           full = full;
           closed = closed;
           types = types;
-          over = over;
         }
       where
         full : (t : ℕ) → 0 < get_or exhausted' t 0 → get_or reserved t 0 ≤ at_type placed₀ t
@@ -231,11 +178,11 @@ module _ (reserved marks : List ℕ) (X : ℕ → Bool) where
             away q t h e = omega (arith, d.rest q h)
 
     -- all types are exhausted
-    full_up : AllExhausted (length reserved) exhausted → Down reserved marks X left placed₀ exhausted more n (p + 1)
+    full_up : AllExhausted (length reserved) exhausted → Down reserved marks X left placed₀ exhausted n (p + 1)
     full_up all =
         test (X p)
         (λ in-play.
-        stuck left placed₀ exhausted more in-play d.positions
+        stuck left placed₀ exhausted in-play d.positions
         record {
           same = refl;
           more = λ t v. v;
@@ -243,7 +190,7 @@ module _ (reserved marks : List ℕ) (X : ℕ → Bool) where
           closed = λ q t u v z. absurd (omega arith);
           own = λ u l h. all u l;
         }
-        d.types d.over)
+        d.types)
         not_considered
 
     -- a search for the place goes down to it only: nobody beyond has a type
@@ -257,27 +204,27 @@ module _ (reserved marks : List ℕ) (X : ℕ → Bool) where
         → length part ≡ length (take (p + 1) placed₀) → Attempted reserved left left' marks exhausted exhausted' placed₀ (part ++ drop (p + 1) placed₀) p b
     among_all {part = part} a sized = attempted_all d.placing (p + 1) (omega arith) beyond part sized (omega arith) a
 
-    -- what stands after the place, as the code leaves it: where all types are exhausted, ..
-    module _ {f l e : List ℕ} {m : ℕ} {o : Bool} where
-      pub passed_full : more ≡ false → f ≡ left → l ≡ placed₀ → e ≡ exhausted → o ≡ more → m ≡ n → Down reserved marks X f l e o m (p + 1)
-      passed_full none ef el ee eo en = rw (ef, el, ee, eo, en) (full_up (d.over none))
+    -- what stands after the place: where it is not considered, ..
+    module _ {r : Bool} (said : r ≡ X p) where
+      pub passed : r ≡ false → Down reserved marks X left placed₀ exhausted n (p + 1)
+      passed out = not_considered (sym said ∙ out)
 
-      module _ {r : Bool} (said : r ≡ X p) where
-        -- .. where it is not considered, ..
-        pub passed : r ≡ false → f ≡ left → l ≡ placed₀ → e ≡ exhausted → o ≡ more → m ≡ n → Down reserved marks X f l e o m (p + 1)
-        passed out ef el ee eo en = rw (ef, el, ee, eo, en) (not_considered (sym said ∙ out))
+      -- .. where it is placed, and where the search for it is in vain
+      module _ {left' part exhausted' : List ℕ} {b : Bool} (in-play : r ≡ true)
+          (a : Attempted reserved left left' (take (p + 1) marks) exhausted exhausted' (take (p + 1) placed₀) part p b)
+          (sized : length part ≡ length (take (p + 1) placed₀)) where
+        pub placed_one : b ≡ true → Down reserved marks X left' (part ++ drop (p + 1) placed₀) exhausted' (n + 1) (p + 1)
+        placed_one got =
+            let all = among_all a sized in
+            rw (a.spared got) (moved left' _ (sym said ∙ in-play) all.positions (all.found got))
 
-        -- .. where it is placed, and where the search for it is in vain
-        module _ {left' part exhausted' : List ℕ} {b : Bool} (in-play : r ≡ true)
-            (a : Attempted reserved left left' (take (p + 1) marks) exhausted exhausted' (take (p + 1) placed₀) part p b)
-            (sized : length part ≡ length (take (p + 1) placed₀)) where
-          pub placed_one : b ≡ true → f ≡ left' → l ≡ part ++ drop (p + 1) placed₀ → e ≡ exhausted' → o ≡ more → m ≡ n + 1 → Down reserved marks X f l e o m (p + 1)
-          placed_one got ef el ee eo en =
-              let all = among_all a sized in
-              rw (ef, el, ee, a.spared got, eo, en) (moved left' _ (sym said ∙ in-play) all.positions (all.found got))
+        pub passed_by : b ≡ false → length exhausted' ≡ length exhausted → Down reserved marks X left' (part ++ drop (p + 1) placed₀) exhausted' n (p + 1)
+        passed_by none kept =
+            let all = among_all a sized in
+            stuck left' _ exhausted' (sym said ∙ in-play) all.positions (all.stuck none) (kept ∙ d.types)
 
-          pub passed_by : {more' : Bool} → b ≡ false → length exhausted' ≡ length exhausted → (more' ≡ false → AllExhausted (length reserved) exhausted')
-              → f ≡ left' → l ≡ part ++ drop (p + 1) placed₀ → e ≡ exhausted' → o ≡ more' → m ≡ n → Down reserved marks X f l e o m (p + 1)
-          passed_by {more'} none kept over ef el ee eo en =
-              let all = among_all a sized in
-              rw (ef, el, ee, eo, en) (stuck left' _ exhausted' more' (sym said ∙ in-play) all.positions (all.stuck none) (kept ∙ d.types) over)
+  -- all types are exhausted: nobody more is taken
+  pub run_out : (k : ℕ) {left placed exhausted : List ℕ} {n p : ℕ} → p + k ≡ length marks → Down reserved marks X left placed exhausted n p
+      → AllExhausted (length reserved) exhausted → Took reserved left marks placed X n
+  run_out zero e d all = bottom d (omega arith)
+  run_out (suc k) e d all = run_out k (omega arith) (full_up (omega arith) d all) all

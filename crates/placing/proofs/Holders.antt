@@ -1,8 +1,19 @@
 -- The way up the places to the next one at a type who has a type to try.
-use Prim.Native.Nat.{ℕ, suc, ◌+◌, ◌-◌, ◌≤◌, ◌<◌}
-use mathlib.Core.Path.{◌≡◌, sym, ap, ◌∙◌}
+use Prim.Native.Nat.{ℕ, suc, ◌+◌, ◌≤◌, ◌<◌}
+use mathlib.Core.Path.{◌≡◌, sym, ap, subst, ◌∙◌}
 use mathlib.Core.Bool.{Bool, true, false, ◌&&◌}
-use mathlib.Core.List.{List}
+use mathlib.Core.List.{List, [], ◌∷◌}
+use denote.Ref.{Bor}
+use denote.Param.Members.{Mut}
+use Rattle.std.specs.declared.ops.Range.{Range}
+use Rattle.std.specs.declared.iter.Rev.{Rev}
+use Rattle.std.specs.Prelude.{Option, None, Some}
+use Rattle.std.specs.Option.{MatchOption, IfSome}
+use Rattle.std.specs.List.{FoldsTo}
+use Rattle.std.specs.Fn.{CalledAt}
+use Rattle.std.specs.Iterator.{Yields, YieldsThen}
+use Rattle.std.specs.Iterator.Adapters.{rev_steps}
+use Rattle.std.proofs.iter.runs.Sources.{nat_range_steps_back}
 use native.Mathlib.Omega.{arith}
 use lib.Dec.{eqb}
 use lib.ListN.{get_or}
@@ -26,42 +37,38 @@ nothing_more m visited {t} below test none u l held =
     seen : eqb (get_or visited t 0) 0 ≡ false → 0 < get_or visited t 0
     seen e = less_or 0 (get_or visited t 0) (λ l. l) (λ z. absurd (eqb-false (get_or visited t 0) 0 e (omega arith)))
 
--- one type is
-pub one_to_try : (m : ℕ) (visited : List ℕ) {t : ℕ} {r : Bool} → t < 8 → r ≡ (holds m t && eqb (get_or visited t 0) 0) → r ≡ true → SomeToTry m visited
-one_to_try m visited {t} below test tries = let (held, unseen) = tried_test m t (get_or visited t 0) test tries in (t, below, held, unseen)
+-- `find` down a range: the last number that passes
+module _ {F : Type 0} {g : Mut F (Bor ℕ × Unit {0}) Bool} (f : F) (Yes No : ℕ → Type 0) (hit : (x : ℕ) (q : F) → CalledAt g f x true q → Yes x)
+    (miss : (x : ℕ) (q : F) → CalledAt g f x false q → (q ≡ f) × No x) where
+  abbrev Last : ℕ → ℕ → Option ℕ → Type 0
+  Last start end r =
+      MatchOption r ((k : ℕ) → start ≤ k → k < end → No k) (λ i. (i < end) × Yes i × ((k : ℕ) → i < k → k < end → No k))
 
--- for those from place h up to the end who are placed at type t, there is nothing to try
-pub record PassedOver (marks placed visited : List ℕ) (t end h : ℕ) : Type 0 where
-  pub over : (p : ℕ) → h ≤ p → p < end → get_or placed p 0 ≡ suc t → NothingToTry (get_or marks p 0) visited
+  extend : (start start' end end' n : ℕ) (r : Option ℕ) → start' ≡ start → end' ≡ end + 1 → n ≡ end → No n → Last start end r → Last start' end' r
+  extend start start' end end' n None low high at other last = λ k l b. same_or k n (λ q. rw q other) (λ z. last k (omega arith) (omega arith))
+  extend start start' end end' n (Some i) low high at other last =
+      (omega (arith, last.0), last.1, λ k l b. same_or k n (λ q. rw q other) (λ z. last.2 k l (omega arith)))
 
-module _ (marks placed visited : List ℕ) (t end : ℕ) where
-  pub none_passed : {h : ℕ} → end ≤ h → PassedOver marks placed visited t end h
-  none_passed all = record { over = λ p l b. absurd (omega arith) }
+  last_after : (xs : List ℕ) (s t u : Rev (Range ℕ)) (r : Option ℕ) (j : F) → Yields (rev_steps nat_range_steps_back) s xs t → rev_steps nat_range_steps_back t r u
+      → FoldsTo (λ p x q. CalledAt g p x false q) f xs j → IfSome r (λ x. (h : F) × CalledAt g j x true h) → Last s.iter.start s.iter.end r
+  last_after [] s t u None j y d e h = λ k low high. absurd (omega (arith, ap (λ (x : Rev (Range ℕ)). x.iter.start) y, ap (λ (x : Rev (Range ℕ)). x.iter.end) y, d.1.0))
+  last_after [] s t u (Some x) j y d e h =
+      let at : s.iter.end ≡ x + 1 = omega (arith, ap (λ (x : Rev (Range ℕ)). x.iter.end) y, d.1.1, d.1.2) in
+      (omega arith, hit x h.0 (rw e h.1), λ k low high. absurd (omega arith))
+  last_after (n ∷ ns) s t u r j y d e h =
+      let (same, other) = miss n e.0 e.1 in
+      extend y.0.iter.start s.iter.start y.0.iter.end s.iter.end n r (sym y.1.0) y.1.1.2 y.1.1.1 other
+      (last_after ns y.0 t u r j y.2 d (subst (λ (z : F). FoldsTo (λ p x q. CalledAt g p x false q) z ns j) same e.2) h)
 
-  -- the one above place h is at another type, or has nothing to try
-  pub passed_other : {h g i byte : ℕ} → PassedOver marks placed visited t end h → suc g ≡ h → i ≡ g → byte ≡ get_or placed g 0 → (byte ≡ t + 1 → ⊥)
-      → PassedOver marks placed visited t end i
-  passed_other {h} {g} k next at reads other = rw at record {
-    over = λ p l b e. same_or p g (λ q. absurd (other (omega (arith, rw q at e)))) (λ q. k.over p (omega arith) b e);
-  }
+  pub last_found : (s u : Rev (Range ℕ)) (r : Option ℕ) (start end : ℕ) → s.iter ≡ record { start = start; end = end }
+      → (xs : List ℕ) × (j : F) × YieldsThen (rev_steps nat_range_steps_back) s xs r u × FoldsTo (λ p x q. CalledAt g p x false q) f xs j × IfSome r (λ x. (h : F) × CalledAt g j x true h)
+      → Last start end r
+  last_found s u r start end e d = subst (λ (k : Range ℕ). Last k.start k.end r) e (last_after d.0 s d.2.0 u r d.1 d.2.1 d.2.2 d.3 d.4)
 
-  pub passed_spent : {h g i : ℕ} → PassedOver marks placed visited t end h → suc g ≡ h → i ≡ g → NothingToTry (get_or marks g 0) visited
-      → PassedOver marks placed visited t end i
-  passed_spent {h} {g} k next at spent = rw at record { over = λ p l b e. same_or p g (λ q. rw q spent) (λ q. k.over p (omega arith) b e) }
-
-  -- it is placed at type t and has something to try
-  pub sought : {h g r byte : ℕ} → PassedOver marks placed visited t end h → suc g ≡ h → h ≤ end → byte ≡ get_or placed g 0 → byte ≡ t + 1
-      → SomeToTry (get_or marks g 0) visited → r ≡ suc g → Sought marks placed visited t end r
-  sought {h} {g} k next inside reads at some e =
-      let at-type : get_or placed g 0 ≡ suc t = omega arith in
-      let one_less : suc g - 1 ≡ g = omega arith in
-      rw e record {
-        within = omega arith;
-        holder = λ l. ap (λ (i : ℕ). get_or placed i 0) one_less ∙ at-type;
-        able = λ l. rw one_less some;
-        passed = λ p l b. k.over p (omega arith) b;
-      }
-
-  -- there is nobody
-  pub sought_none : {h : ℕ} → PassedOver marks placed visited t end h → h ≡ 0 → Sought marks placed visited t end 0
-  sought_none k e = record { within = omega arith; holder = λ l. absurd (omega arith); able = λ l. absurd (omega arith); passed = λ p l b. k.over p (omega arith) b }
+-- the next one going up, by the last that passes
+pub sought_by : (marks placed visited : List ℕ) (t end : ℕ) (r : Option ℕ)
+    → MatchOption r ((k : ℕ) → 0 ≤ k → k < end → get_or placed k 0 ≡ suc t → NothingToTry (get_or marks k 0) visited)
+    (λ h. (h < end) × ((get_or placed h 0 ≡ suc t) × SomeToTry (get_or marks h 0) visited)
+    × ((k : ℕ) → h < k → k < end → get_or placed k 0 ≡ suc t → NothingToTry (get_or marks k 0) visited)) → Sought marks placed visited t end r
+sought_by marks placed visited t end None none = record { over = λ p l b. none p l b }
+sought_by marks placed visited t end (Some h) last = record { within = last.0; holder = last.1.0; able = last.1.1; passed = record { over = λ p l b. last.2 p (omega arith) b } }

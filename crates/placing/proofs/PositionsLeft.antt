@@ -7,37 +7,17 @@ use mathlib.Core.Logic.{◌≢◌}
 use native.Mathlib.Omega.{arith}
 use native.Mathlib.Numerals.{add-one}
 use lib.Dec.{eqb}
-use lib.ListN.{length, get_or, set, take, replicate, length-set, get_or-eq_default}
+use lib.ListN.{length, get_or, set, take, replicate, length-set}
 use lib.Seq.{get_or-set_same, get_or-set_other, get_or-take, set-set}
 use borrow.Author.Tests.{ne_eqb}
 use Rattle.lists.specs.Lists.{bit, count_of}
 use Rattle.matching.specs.Use.{one_less, Placing}
 use Rattle.placing.specs.Left.{at_type, Left, OneTaken, given_back, Vacating}
 use Rattle.placing.specs.Search.{Ends}
-use Rattle.lists.proofs.Counting.{less_or, same_or, bit_same, bit_other}
+use Rattle.lists.proofs.Counting.{same_or, bit_same, bit_other}
 use Rattle.matching.proofs.Use.{one_less_length, one_less_same, one_less_other}
 use Rattle.lists.proofs.Tabulate.{get_or_zeros}
 use Rattle.lists.proofs.Counts.{count_one, count_rest}
-
--- a position is given back of the type, from 1, that somebody had, ..
-pub given_back_lem : (left : List ℕ) (had x : ℕ) → had ≡ x → 0 < had → set left (had - 1) (get_or left (had - 1) 0 + 1) ≡ given_back left x
-given_back_lem left zero x e l = absurd (omega arith)
-given_back_lem left (suc t) x e l = let same : suc t - 1 ≡ t = omega arith in rw (← e, same) refl
-
--- .. or of none
-pub none_back : (left : List ℕ) (had x : ℕ) → had ≡ x → had ≤ 0 → left ≡ given_back left x
-none_back left zero x e l = rw (← e) refl
-none_back left (suc t) x e l = absurd (omega arith)
-
--- what is left is left with more given back
-pub still_left : (left : List ℕ) (x t : ℕ) → 0 < get_or left t 0 → 0 < get_or (given_back left x) t 0
-still_left left zero t some = some
-still_left left (suc s) t some =
-    same_or t s
-    (λ same.
-    rw same
-    (omega (arith, get_or-set_same left s (get_or left s 0 + 1) 0 (less_or s (length left) (λ l. l) (λ h. absurd (omega (arith, get_or-eq_default left 0 h, rw same at some)))))))
-    (λ other. rw (get_or-set_other left s t (get_or left s 0 + 1) 0 other) some)
 
 -- one place gets another type, or none
 pub at_set : (placed : List ℕ) (c x t : ℕ) → c < length placed

@@ -5,16 +5,15 @@ use mathlib.Core.Bool.{Bool, true, false, ◌&&◌}
 use mathlib.Core.List.{List}
 use native.Mathlib.Omega.{arith}
 use lib.Dec.{eqb}
-use lib.ListN.{length, get_or, set, length-set, get_or-eq_default}
+use lib.ListN.{length, get_or, set, length-set}
 use lib.Seq.{get_or-set_same, get_or-set_other}
 use borrow.Author.Tests.{eqb-true, eq-eqb, ne_eqb}
+use Rattle.std.specs.Prelude.{Option, None, Some}
 use Rattle.lists.specs.Lists.{bit, count_of}
-use Rattle.placing.specs.declared.placing.Found.{Found}
-use Rattle.placing.specs.declared.placing.Found.TheVariants.{At, Nothing}
 use Rattle.lists.specs.Numbers.{holds}
 use Rattle.matching.specs.Use.{one_less, Placing}
 use Rattle.placing.specs.Left.{at_type, Left, given_back}
-use Rattle.placing.specs.Search.{Sought, Ends, Moved, Stuck, Searched}
+use Rattle.placing.specs.Search.{PassedOver, Ends, Moved, Stuck, Searched}
 use Rattle.lists.proofs.Counting.{less_or, same_or, bit_true, bit_false, bit_suc, count_less}
 use Rattle.placing.proofs.Holders.{tried_test, nothing_more}
 use Rattle.placing.proofs.PositionsLeft.{at_set, moved_to}
@@ -51,18 +50,9 @@ pub record Cleared (reserved marks visited before after : List ℕ) (c t : ℕ) 
   pub comes : (p u : ℕ) → 0 < get_or visited u 0 → get_or after p 0 ≡ suc u → get_or before p 0 ≡ suc u
 
 -- how the search ends, by the type that was found
-abbrev pub SearchEnded : (reserved marks visited visited' before after : List ℕ) (c : ℕ) → Found → Type 0
-SearchEnded reserved marks visited visited' before after c (At t) = Cleared reserved marks visited before after c t
-SearchEnded reserved marks visited visited' before after c Nothing = Stuck reserved marks visited visited' before after c
-
--- .. said of lists that are the same
-pub ended_by : (reserved marks : List ℕ) {v v₁ w w₁ b b₁ a a₁ : List ℕ} (c : ℕ) {f f₁ : Found} → v ≡ v₁ → w ≡ w₁ → b ≡ b₁ → a ≡ a₁
-    → f ≡ f₁ → SearchEnded reserved marks v₁ w₁ b₁ a₁ c f₁ → SearchEnded reserved marks v w b a c f
-ended_by reserved marks c ev ew eb ea ef x = rw (ev, ew, eb, ea, ef) x
-
--- .. and what is left
-pub left_by : {reserved l l₁ p p₁ : List ℕ} → l ≡ l₁ → p ≡ p₁ → Left reserved l₁ p₁ → Left reserved l p
-left_by el ep x = rw (el, ep) x
+abbrev pub SearchEnded : (reserved marks visited visited' before after : List ℕ) (c : ℕ) → Option ℕ → Type 0
+SearchEnded reserved marks visited visited' before after c (Some t) = Cleared reserved marks visited before after c t
+SearchEnded reserved marks visited visited' before after c None = Stuck reserved marks visited visited' before after c
 
 -- how many types are not visited
 abbrev pub unvisited : List ℕ → ℕ
@@ -79,9 +69,9 @@ module _ (reserved marks placed : List ℕ) where
   }
 
   -- c does not hold type t, or it is visited
-  pub skip : {visited₀ visited l v : List ℕ} {c t : ℕ} {r : Bool} → Tried reserved marks placed visited₀ visited c t
-      → r ≡ (holds (get_or marks c 0) t && eqb (get_or visited t 0) 0) → r ≡ false → l ≡ placed → v ≡ visited → Tried reserved marks l visited₀ v c (t + 1)
-  skip {visited = visited} {c = c} k test none el ev = rw (el, ev) record { grown = k.grown; own = nothing_more (get_or marks c 0) visited k.own test none }
+  pub skip : {visited₀ visited : List ℕ} {c t : ℕ} {r : Bool} → Tried reserved marks placed visited₀ visited c t
+      → r ≡ (holds (get_or marks c 0) t && eqb (get_or visited t 0) 0) → r ≡ false → Tried reserved marks placed visited₀ visited c (t + 1)
+  skip {visited = visited} {c = c} k test none = record { grown = k.grown; own = nothing_more (get_or marks c 0) visited k.own test none }
 
   -- every type was tried
   pub done : {visited₀ visited : List ℕ} {c t : ℕ} → Tried reserved marks placed visited₀ visited c t → length reserved ≤ t
@@ -94,40 +84,21 @@ module _ (reserved marks placed : List ℕ) where
     own = λ u l held. k.own u (omega arith) held;
   }
 
-  pub ask : (visited : List ℕ) (t : ℕ) {end : ℕ} → length placed ≤ end → Asked reserved marks placed visited visited t end
-  ask visited t {end} all = record {
-    grown = record { more = λ u l. l; full = λ u l z. omega arith; closed = λ p u w l z. absurd (lost u l z) };
-    asked = λ p w l e. absurd (nobody p l e);
-  }
-    where
-      lost : (u : ℕ) → 0 < get_or visited u 0 → get_or visited u 0 ≡ 0 → ⊥
-      lost u l z = omega arith
-
-      nobody : (p : ℕ) → end ≤ p → get_or placed p 0 ≡ suc t → ⊥
-      nobody p l e = let none : get_or placed p 0 ≡ 0 = get_or-eq_default placed 0 (omega arith) in omega arith
-
-  -- the places from r up to the end are passed over
-  pub pass : {visited₁ visited before : List ℕ} {t end r : ℕ} → Asked reserved marks placed visited₁ visited t end → before ≡ placed → length reserved ≤ 8
-      → Sought marks before visited t end r → Asked reserved marks placed visited₁ visited t r
-  pass {visited = visited} {t = t} {end} {r} a was few passed_over = record {
-    grown = a.grown;
-    asked = λ p w l e b held. less_or p end (λ less. s.passed p l less e w (omega arith) held) (λ h. a.asked p w h e b held);
-  }
-    where
-      s : Sought marks placed visited t end r
-      s = subst (λ (l : List ℕ). Sought marks l visited t end r) was passed_over
-
-  -- the search for the holder at place h fails
-  pub fail : {visited₁ visited visited' v before after : List ℕ} {t r h : ℕ} → Asked reserved marks placed visited₁ visited t r → r ≤ suc h → before ≡ placed
-      → Stuck reserved marks visited visited' before after h → v ≡ visited' → Asked reserved marks placed visited₁ v t h
-  fail {visited₁} {visited} {visited'} {after = after} {h = h} a next was stuck ev = rw ev record {
+  -- the search for the holder at place h fails, where those above were passed over
+  pub fail : {visited₁ visited visited' before after : List ℕ} {t end h : ℕ} → Asked reserved marks placed visited₁ visited t end → before ≡ placed
+      → length reserved ≤ 8 → PassedOver marks before visited t end (suc h) → Stuck reserved marks visited visited' before after h → Asked reserved marks placed visited₁ visited' t h
+  fail {visited₁} {visited} {visited'} {before} {after} {t} {end} {h} a was few over stuck = record {
     grown = join visited₁ visited visited' a.grown record { more = s.more; full = s.full; closed = s.closed };
     asked = λ p w l e b held.
-        same_or p h (λ q. s.own w b (rw q at held)) (λ q. s.more w (a.asked p w (omega arith) e b held));
+        same_or p h (λ q. s.own w b (rw q at held))
+        (λ q. s.more w (less_or p end (λ less. passed.over p (omega arith) less e w (omega arith) held) (λ beyond. a.asked p w beyond e b held)));
   }
     where
       s : Stuck reserved marks visited visited' placed after h
-      s = subst (λ (l : List ℕ). Stuck reserved marks visited visited' l after h) was stuck
+      s = subst (λ (x : List ℕ). Stuck reserved marks visited visited' x after h) was stuck
+
+      passed : PassedOver marks placed visited t end (suc h)
+      passed = subst (λ (x : List ℕ). PassedOver marks x visited t end (suc h)) was over
 
   -- type t is held by c and not visited
   module _ {visited₀ visited : List ℕ} {c t : ℕ} {r : Bool} (k : Tried reserved marks placed visited₀ visited c t) (types : length visited ≡ 8)
@@ -235,17 +206,17 @@ module _ (reserved marks placed : List ℕ) where
               let type : t ≡ u = omega (arith, at, place q) in
               omega (arith, ap (λ (i : ℕ). get_or visited₀ i 0) type, unseen)
 
-      -- it is full, and every holder was asked
-      pub finish : {left l l₁ v : List ℕ} → Left reserved left placed → get_or left t 0 ≤ 0 → h ≤ 0 → l ≡ l₁ → l₁ ≡ placed → v ≡ visited'
-          → Tried reserved marks l visited₀ v c (t + 1)
-      finish {left} positions none all el el₁ ev = rw (el, el₁, ev) record {
+      -- it is full, and the other holders were passed over
+      pub finish : {before left : List ℕ} → before ≡ placed → Left reserved left placed → get_or left t 0 ≤ 0 → PassedOver marks before visited' t h 0
+          → Tried reserved marks placed visited₀ visited' c (t + 1)
+      finish {before} was positions none over = record {
         grown = record {
           more = λ u v. since u (k.grown.more u v);
           full = λ u v z.
               same_or u t (λ q. rw q (omega (arith, positions.value t below)))
               (λ n. less_or 0 (get_or visited u 0) (λ l. k.grown.full u l z) (λ l. a.grown.full u v (not_marked u n (omega arith))));
           closed = λ p u w v z e l o.
-              same_or u t (λ q. a.asked p w (omega arith) (rw q at e) l o)
+              same_or u t (λ q. asked p w (rw q at e) l o)
               (λ n.
               less_or 0 (get_or visited u 0) (λ b. since w (k.grown.closed p u w b z e l o))
               (λ b. a.grown.closed p u w v (not_marked u n (omega arith)) e l o));
@@ -253,11 +224,17 @@ module _ (reserved marks placed : List ℕ) where
         own = λ u l o. same_or u t (λ q. rw q here) (λ n. since u (k.own u (omega arith) o));
       }
         where
+          passed : PassedOver marks placed visited' t h 0
+          passed = subst (λ (x : List ℕ). PassedOver marks x visited' t h 0) was over
+
+          asked : (p w : ℕ) → get_or placed p 0 ≡ suc t → w < length reserved → holds (get_or marks p 0) w ≡ true → 0 < get_or visited' w 0
+          asked p w e b o = less_or p h (λ less. passed.over p (omega arith) less e w (omega arith) o) (λ beyond. a.asked p w beyond e b o)
+
           not_marked : (u : ℕ) → (u ≡ t → ⊥) → get_or visited u 0 ≡ 0 → get_or (set visited t 1) u 0 ≡ 0
           not_marked u n z = rw (get_or-set_other visited t u 1 0 n) z
 
 -- c takes the position
-pub settle : (reserved marks visited before after : List ℕ) (c t : ℕ) → c < length marks
+settle : (reserved marks visited before after : List ℕ) (c t : ℕ) → c < length marks
     → ((u : ℕ) → get_or before c 0 ≡ suc u → 0 < get_or visited u 0) → Cleared reserved marks visited before after c t → Moved reserved marks visited before (set after c (suc t)) c
 settle reserved marks visited before after c t inside away k = record {
   placing = record { each = length-set after c (suc t) ∙ k.placing.each; held = held; within = within };
@@ -315,23 +292,17 @@ settle reserved marks visited before after c t inside away k = record {
         grown : at_type (set after c (suc t)) u ≤ at_type after u + bit (eqb (get_or (set after c (suc t)) c 0) (suc u))
         grown = rw at (omega (arith, at_set after c (suc t) u here))
 
--- how the search ends, and what is left then: c has taken the position, ..
+-- how the search ends when c has taken the position, and what is left then
 pub settled : {reserved left marks visited visited' before after l p : List ℕ} {c t : ℕ} → c < length marks
     → ((u : ℕ) → get_or before c 0 ≡ suc u → 0 < get_or visited u 0) → Cleared reserved marks visited before after c t → Left reserved left after → l ≡ one_less (given_back left (get_or after c 0)) t → p ≡ set after c (suc t)
     → Searched reserved l marks visited visited' before p c true
 settled {reserved} {marks = marks} {visited} {before = before} {after} {c = c} {t} inside away k positions el ep = rw (el, ep) record {
   positions = moved_to k.placing positions c t inside k.below k.room;
   found = λ e. settle reserved marks visited before after c t inside away k;
-  stuck = λ e. absurd (never e);
+  stuck = λ e. cc;
 }
-  where
-    never : true ≡ false → ⊥
-    never e = let z : ◌≡◌ {A = ℕ} 0 1 = cc in omega arith
 
 -- .. or there is none for it
 pub unsettled : {reserved left marks visited visited' before after : List ℕ} {c : ℕ} → Stuck reserved marks visited visited' before after c → Left reserved left after
     → Searched reserved left marks visited visited' before after c false
-unsettled k positions = record { positions = positions; found = λ e. absurd (never e); stuck = λ e. k }
-  where
-    never : false ≡ true → ⊥
-    never e = let z : ◌≡◌ {A = ℕ} 0 1 = cc in omega arith
+unsettled k positions = record { positions = positions; found = λ e. cc; stuck = λ e. k }

@@ -1,6 +1,6 @@
 -- The search for a place (document 01, "One institute chooses": "seated candidates may be moved between types").
 -- placed has at each place a type, from 1, or 0; visited has at each type, from 0, whether the search has been there, 0 for no.
-use Rattle.std.specs.Prelude.{ℕ, suc, ◌+◌, ◌-◌, ◌≤◌, ◌<◌, ◌≡◌, Bool, true, false, List, eqb, length, get_or}
+use Rattle.std.specs.Prelude.{ℕ, suc, ◌+◌, ◌≤◌, ◌<◌, ◌≡◌, Bool, true, false, List, Option, None, Some, eqb, length, get_or}
 use Rattle.lists.specs.Lists.{bit}
 use Rattle.lists.specs.Numbers.{holds}
 use Rattle.matching.specs.Use.{Placing}
@@ -14,12 +14,21 @@ NothingToTry marks visited = (u : ℕ) → u < 8 → holds marks u ≡ true → 
 abbrev pub SomeToTry : ℕ → List ℕ → Type 0
 SomeToTry marks visited = (u : ℕ) × (u < 8) × (holds marks u ≡ true) × (get_or visited u 0 ≡ 0)
 
--- if r is not 0, the one at place r - 1 is placed at type t and has something to try; who is placed there from r up to the end has nothing
-pub record Sought (marks placed visited : List ℕ) (t end r : ℕ) : Type 0 where
-  pub within : r ≤ end
-  pub holder : 0 < r → get_or placed (r - 1) 0 ≡ suc t
-  pub able : 0 < r → SomeToTry (get_or marks (r - 1) 0) visited
-  pub passed : (p : ℕ) → r ≤ p → p < end → get_or placed p 0 ≡ suc t → NothingToTry (get_or marks p 0) visited
+-- there is nothing to try for those from place h up to the end who are placed at type t
+pub record PassedOver (marks placed visited : List ℕ) (t end h : ℕ) : Type 0 where
+  pub over : (p : ℕ) → h ≤ p → p < end → get_or placed p 0 ≡ suc t → NothingToTry (get_or marks p 0) visited
+
+-- the one at place h, before the end, is placed at type t and has something to try; those above who are placed there have nothing
+pub record Next (marks placed visited : List ℕ) (t end h : ℕ) : Type 0 where
+  pub within : h < end
+  pub holder : get_or placed h 0 ≡ suc t
+  pub able : SomeToTry (get_or marks h 0) visited
+  pub passed : PassedOver marks placed visited t end (suc h)
+
+-- the next one going up from the end, or nobody before the end
+abbrev pub Sought : (marks placed visited : List ℕ) (t end : ℕ) → Option ℕ → Type 0
+Sought marks placed visited t end None = PassedOver marks placed visited t end 0
+Sought marks placed visited t end (Some h) = Next marks placed visited t end h
 
 -- what a search for the one at place c starts from: c has no type, or a visited one
 pub record Searching (reserved left marks placed visited : List ℕ) (c : ℕ) : Type 0 where

@@ -3,17 +3,13 @@ ghost use Rattle.std.specs.Prelude.{◌≡◌, suc, ◌≤◌, ◌<◌, length, 
 ghost use Rattle.matching.specs.Use.{one_less};
 ghost use Rattle.placing.specs.Left.{given_back, Vacating};
 
-use lists::word::from_byte;
-
 // The positions of each type, in an area of their own.
 pub fn positions_of(reserved: &[usize]) -> [usize; 8]
     requires { length reserved.now ≤ 8 }
     ensures { (length result ≡ 8) × (take (length reserved.now) result ≡ reserved.now) }
 {
     let mut room = [0usize; 8];
-    for t in 0..reserved.len() {
-        room[t] = reserved[t];
-    }
+    room[..reserved.len()].copy_from_slice(reserved);
     room
 }
 
@@ -22,7 +18,7 @@ pub fn vacate(left: &mut [usize], placed: &mut [u8], c: usize)
     requires { Vacating left.old placed.old c }
     ensures { (left.new ≡ given_back left.old (get_or placed.old c 0)) × (placed.new ≡ set placed.old c 0) }
 {
-    let had = from_byte(placed[c]);
+    let had = usize::from(placed[c]);
     placed[c] = 0;
     if 0 < had {
         left[had - 1] += 1;

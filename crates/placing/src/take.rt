@@ -1,28 +1,20 @@
 // Down the places: who raises the use of those taken is taken.
 ghost use Rattle.std.specs.Prelude.{◌≡◌, false, ◌≤◌, ◌<◌, length, replicate};
+ghost use Rattle.round.specs.Category.{code_of};
 ghost use Rattle.placing.specs.Offers.{considers_by};
 ghost use Rattle.placing.specs.Left.{Left};
 ghost use Rattle.placing.specs.Search.{Searching};
 ghost use Rattle.placing.specs.Taken.{Without, AllExhausted, Attempted, Took};
 
 use crate::placing::{has_type, place};
+use round::entry::Category;
 
-// Whether place p offers an entry of the code and has no step yet.
-pub fn considers(offers: &[u8], steps: &[u8], code: usize, p: usize) -> bool
-    requires { (code < 5) × (p < length offers.now) × (p < length steps.now) }
-    ensures { result ≡ considers_by offers.now steps.now code p }
+// Whether place p offers an entry of the category and has no step yet.
+pub fn considers(offers: &[u8], steps: &[u8], category: Category, p: usize) -> bool
+    requires { (p < length offers.now) × (p < length steps.now) }
+    ensures { result ≡ considers_by offers.now steps.now (code_of category) p }
 {
-    has_type(offers[p], code) && steps[p] == 0
-}
-
-// Copies the bytes of one list into another.
-pub fn copy(from: &[u8], to: &mut [u8])
-    requires { length to.old ≡ length from.now }
-    ensures { to.new ≡ from.now }
-{
-    for i in 0..from.len() {
-        to[i] = from[i];
-    }
+    has_type(offers[p], usize::from(u8::from(category))) && steps[p] == 0
 }
 
 // The types that have no positions, which are exhausted from the start.
@@ -31,25 +23,20 @@ fn without_positions(reserved: &[usize]) -> [u8; 8]
     ensures { Without reserved.now result }
 {
     let mut exhausted = [0u8; 8];
-    for t in 0..reserved.len() {
-        if reserved[t] == 0 {
+    for (t, positions) in reserved.iter().enumerate() {
+        if *positions == 0 {
             exhausted[t] = 1;
         }
     }
     exhausted
 }
 
-// Whether some type is not exhausted.
+// Whether some type is not exhausted. Not by `contains`, which is slower over at most eight bytes.
 fn some_open(exhausted: &[u8], types: usize) -> bool
     requires { types ≤ length exhausted.now }
     ensures { result ≡ false → AllExhausted types exhausted.now }
 {
-    for t in 0..types {
-        if exhausted[t] == 0 {
-            return true;
-        }
-    }
-    false
+    exhausted[..types].iter().any(|seen| *seen == 0)
 }
 
 // Places p with those taken before, if that can be; what a search in vain visited is exhausted.
@@ -65,48 +52,50 @@ pub fn take_one(
     ensures { Attempted reserved.now left.old left.new marks.now exhausted.old exhausted.new placed.old placed.new p result }
 {
     let mut visited = [0u8; 8];
-    copy(exhausted, &mut visited);
+    visited.copy_from_slice(exhausted);
     if place(reserved, left, marks, placed, &mut visited, p) {
         true
     } else {
-        copy(&visited, exhausted);
+        exhausted.copy_from_slice(&visited);
         false
     }
 }
 
 // Gives a type to each place that is taken for use, and returns their number; the positions left go along.
+// Tables side by side, as they come from C (`tazbilk_choose`).
 pub fn take_for_use(
     reserved: &[usize],
     left: &mut [usize],
     marks: &[u8],
     offers: &[u8],
     steps: &[u8],
-    code: usize,
+    category: Category,
     placed: &mut [u8],
 ) -> usize
-    requires reserved_len_bound { (length reserved.now ≤ 8) × (code < 5) × (length offers.now ≡ length marks.now) × (length steps.now ≡ length marks.now) × (placed.old ≡ replicate (length marks.now) 0) }
+    requires reserved_len_bound { (length reserved.now ≤ 8) × (length offers.now ≡ length marks.now) × (length steps.now ≡ length marks.now) × (placed.old ≡ replicate (length marks.now) 0) }
     requires left { Left reserved.now left.old placed.old }
-    ensures { Took reserved.now left.new marks.now placed.new (considers_by offers.now steps.now code) result }
+    ensures { Took reserved.now left.new marks.now placed.new (considers_by offers.now steps.now (code_of category)) result }
 {
     let mut exhausted = without_positions(reserved);
-    let mut more = some_open(&exhausted, reserved.len());
+    if !some_open(&exhausted, reserved.len()) {
+        return 0;
+    }
     let mut n = 0;
+    // By place, since a search for place p moves those before it.
     for p in 0..marks.len() {
-        if more {
-            if considers(offers, steps, code, p) {
-                let end = p + 1;
-                if take_one(
-                    reserved,
-                    left,
-                    &marks[..end],
-                    &mut placed[..end],
-                    &mut exhausted,
-                    p,
-                ) {
-                    n += 1;
-                } else {
-                    more = some_open(&exhausted, reserved.len());
-                }
+        if considers(offers, steps, category, p) {
+            let end = p + 1;
+            if take_one(
+                reserved,
+                left,
+                &marks[..end],
+                &mut placed[..end],
+                &mut exhausted,
+                p,
+            ) {
+                n += 1;
+            } else if !some_open(&exhausted, reserved.len()) {
+                return n;
             }
         }
     }

@@ -7,34 +7,33 @@ ghost use Rattle.questions.specs.Refusal.{verdict};
 ghost use Rattle.probe.specs.Probe.{verdict_in, head_with, body_fits, places_fit, Chosen};
 ghost use Rattle.questions.specs.Read.{as_head};
 
-use choice::account::account_table;
 use choice::choose;
 use questions::form::Form;
 use questions::head::{Head, own_steps};
-use questions::institute::ask_list;
-use reader::reader::{Reading, read_round, start_table};
+use questions::institute::Steps;
+use reader::reader::read_round;
 use reader::records::institute_allowed;
-use reader::rules::{rule_table, rules_of};
+use reader::rules::rules_of;
+use round::rule::Rule;
 
 // The number of the first of the questions about a file that is answered no, and its byte; 0 and 0 where each is answered yes.
 pub fn tazbilk_verdict(file: &[u8], res: &mut [u64; 2])
     ensures { res.new ≡ verdict_in res.old (verdict file.now) }
 {
-    let mut starts = start_table();
-    let got = read_round(file, &mut starts);
-    match got {
-        Reading::Read(_) => {
+    let mut starts = [0; 2512];
+    match read_round(file, &mut starts) {
+        Ok(_) => {
             res[0] = 0;
             res[1] = 0;
         }
-        Reading::Refused { number, offset } => {
-            res[0] = number as u64;
-            res[1] = offset as u64;
+        Err(refusal) => {
+            res[0] = refusal.question.number() as u64;
+            res[1] = refusal.offset as u64;
         }
     }
 }
 
-// A head with so many types and a policy.
+// A head with so many types and a policy, numbers as C gives them.
 fn head_with(types: usize, policy: usize) -> Head
     ensures { as_head result ≡ head_with types policy }
 {
@@ -51,36 +50,18 @@ fn head_with(types: usize, policy: usize) -> Head
 fn body_fits(body: &[u8], types: usize, policy: usize) -> bool
     ensures { result ≡ body_fits (head_with types policy) body.now }
 {
-    if 8 < types {
-        return false;
-    }
-    if 2 < policy {
-        return false;
-    }
-    let h = head_with(types, policy);
-    if !institute_allowed(h, body.len()) {
-        return false;
-    }
-    if own_steps(h) {
-        return ask_list(body, h) == 0;
-    }
-    true
+    let head = head_with(types, policy);
+    types <= 8
+        && policy <= 2
+        && institute_allowed(head, body.len())
+        && (!own_steps(head) || Steps { body, head }.ask_list().is_ok())
 }
 
 // Whether there are at most 512 places, and as many offers, steps and types used.
 fn places_fit(places: usize, offers: usize, steps: usize, used: usize) -> bool
     ensures { result ≡ places_fit places offers steps used }
 {
-    if 512 < places {
-        return false;
-    }
-    if offers != places {
-        return false;
-    }
-    if steps != places {
-        return false;
-    }
-    used == places
+    places <= 512 && offers == places && steps == places && used == places
 }
 
 // The step of each place by an institute's choice, and the type used there, from the marks and the set of offers; where body and lengths do not
@@ -103,10 +84,8 @@ pub fn tazbilk_choose(
     if !places_fit(marks.len(), offers.len(), steps.len(), used.len()) {
         return;
     }
-    let mut rules = rule_table();
-    let count = rules_of(body, head_with(types, policy), &mut rules);
-    let mut noted = account_table();
-    choose(
-        &rules, types, count, marks, offers, true, steps, used, &mut noted,
-    );
+    let head = head_with(types, policy);
+    let mut table = [Rule::NONE; 12];
+    let rules = rules_of(&Steps { body, head }, &mut table);
+    choose(rules, types, marks, offers, true, steps, used);
 }

@@ -17,7 +17,8 @@ use Rattle.questions.specs.Steps.{step_width, step_count, positions_in, reserved
 use Rattle.lists.specs.Numbers.{within}
 use Rattle.questions.specs.Questions.{institute_allowed, length_allowed, first_no, questions_at, kind_questions, head_questions, list_questions, institute_questions, row_questions, row_bytes, candidate_questions, merit_questions, entry_count, institute_in, code_in, merit_count, merit_in}
 use Rattle.questions.specs.Read.{InRange, InstituteBody, LawfulSteps}
-use Rattle.lists.proofs.Words.{and_fst, and_snd, and_no, or_cases, all_at, apart_at}
+use Rattle.std.proofs.lemmas.Bool.{or_cases}
+use Rattle.lists.proofs.Words.{and_fst, and_snd, and_no, all_at, apart_at}
 use Rattle.questions.proofs.Passed.{yes}
 
 pub within_from : (low high x : ℕ) → within low high x ≡ true → low ≤ x
@@ -220,20 +221,11 @@ length_candidate h len e =
       by_width = eqb-true ((len - 2) % width) 0 (and_snd (within 2 (2 + 16 * width) len) _ e);
     }
 
--- a body of an allowed length is as long as the questions of its kind ask
-pub head_long : (h : Head) (kind len : ℕ) → kind ≡ 1 → length_allowed h kind len ≡ true → 8 ≤ len
-head_long h kind len e a = omega (arith, length_head h len (rw e at a))
-
+-- a body of an allowed length is of whole steps
 pub institute_body : (h : Head) (body : List ℕ) → h.types ≤ 8 → institute_allowed h (length body) ≡ true → InstituteBody h body
 institute_body h body l e =
     let fits = length_institute h (length body) e in
     record { types_most = l; steps_most = fits.most; long = fits.by_width }
-
-pub institute_long : (k : Head) (kind : ℕ) (body : List ℕ) → InRange k → kind ≡ 2 → length_allowed k kind (length body) ≡ true → InstituteBody k body
-institute_long k kind body y e a = institute_body k body y.types_most (rw e at a)
-
-pub candidate_long : (k : Head) (kind : ℕ) (body : List ℕ) → kind ≡ 3 → length_allowed k kind (length body) ≡ true → 2 ≤ length body
-candidate_long k kind body e a = (length_candidate k (length body) (rw e at a)).least
 
 -- the steps of an institute of which 17 and 18, where they are asked, are answered yes
 pub steps_lawful : (h : Head) (body : List ℕ) → InstituteBody h body → (own_steps h ≡ true → ListYes h body) → LawfulSteps h body

@@ -1,5 +1,5 @@
 -- The reader's values in the words of the definitions, and what its parts are called with.
-use Rattle.std.specs.Prelude.{ℕ, suc, ◌*◌, ◌^◌, ◌≤◌, ◌<◌, Bool, ◌&&◌, ◌||◌, List, leb, eqb, length, get_or, replicate, ◌≡◌}
+use Rattle.std.specs.Prelude.{ℕ, suc, ◌*◌, ◌^◌, ◌≤◌, ◌<◌, Bool, ◌&&◌, ◌||◌, List, leb, eqb, length, get_or, ◌≡◌}
 use Rattle.questions.specs.declared.head as code
 use Rattle.questions.specs.Records.{Head}
 use Rattle.questions.specs.declared.form.Form.{Form}
@@ -44,7 +44,3 @@ lawful_in form institutes own row k =
 
 abbrev pub same_in : Form → List ℕ → ℕ → ℕ → Bool
 same_in form row k l = eqb (institute_in form row k) (institute_in form row l) && eqb (code_in form row k) (code_in form row l)
-
--- the table of the candidate numbers seen in a merit list, before the first: a place for each number, and for 0
-unfoldable pub none_seen : List ℕ
-none_seen = replicate 513 0

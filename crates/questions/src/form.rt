@@ -6,20 +6,18 @@ ghost use Rattle.questions.specs.Records.{form_of};
 use lists::word::word;
 
 // The form of a file, and so of the seats of its round.
-#[derive(Clone, Copy)]
+#[derive(Clone, Copy, Debug, PartialEq, Eq)]
 pub enum Form {
     Narrow,
     Wide,
 }
 
 // The form of a file, by the kind of its head.
+#[tactic(auto, unfolding(crate::specs::Records::form_of))]
 pub fn form_of(file: &[u8]) -> Form
     ensures { result ≡ form_of file.now }
 {
-    if file.len() < 4 {
-        return Form::Narrow;
-    }
-    if word(file, 2) == 5 {
+    if 4 <= file.len() && word(file, 2) == 5 {
         Form::Wide
     } else {
         Form::Narrow
@@ -47,20 +45,13 @@ pub fn seats_size(form: Form, candidates: usize) -> usize
     }
 }
 
-// The kind that the form gives for one of the kinds 1 to 4, whatever the policy.
+// The kind that the form gives for one of the kinds 1 to 4, whatever the policy. A kind is a number, since any number has an answer here.
 pub fn form_kind(form: Form, kind: usize) -> usize
     ensures { result ≡ form_kind form kind }
 {
-    match form {
-        Form::Narrow => kind,
-        Form::Wide => {
-            if kind == 1 {
-                return 5;
-            }
-            if kind == 3 {
-                return 6;
-            }
-            kind
-        }
+    match (form, kind) {
+        (Form::Wide, 1) => 5,
+        (Form::Wide, 3) => 6,
+        _ => kind,
     }
 }

@@ -3,11 +3,13 @@ ghost use Rattle.std.specs.Prelude.{◌≡◌, ◌||◌, ◌+◌, ◌*◌, ◌�
 ghost use Rattle.lists.specs.Lists.{all_of, sum_of};
 ghost use Rattle.questions.specs.Steps.{step_lead, step_width, step_count, positions_in, reserved_in, step_code, receiver_in};
 ghost use Rattle.lists.specs.Numbers as numbers;
+ghost use Rattle.questions.specs.Numbered.{number_in};
 ghost use Rattle.questions.specs.Questions.{first_no, list_questions, institute_questions};
 ghost use Rattle.questions.specs.Read.{as_head, InstituteBody};
 
 use crate::head::{Head, own_steps};
-use lists::word::{from_byte, within, word};
+use crate::question::Question;
+use lists::word::word;
 
 // The bytes that lead a step.
 fn step_lead(h: Head) -> usize
@@ -24,176 +26,149 @@ pub fn step_width(h: Head) -> usize
     step_lead(h) + (2 + 2 * h.types)
 }
 
-// The number of steps.
-pub fn step_count(body: &[u8], h: Head) -> usize
-    requires { InstituteBody (as_head h) body.now }
-    ensures { result ≡ step_count (as_head h) body.now }
-{
-    if own_steps(h) {
-        body.len() / step_width(h)
-    } else {
-        5
-    }
+// An institute's body, of at most twelve whole steps, with the head of its file.
+#[derive(Clone, Copy)]
+pub struct Steps<'a> {
+    pub body: &'a [u8],
+    pub head: Head,
+    pub ghost whole: { InstituteBody (as_head head) body.now },
 }
 
-// The positions of step k, from 0.
-pub fn positions_in(body: &[u8], h: Head, k: usize) -> usize
-    requires institute_body { InstituteBody (as_head h) body.now }
-    requires k_bound { k < step_count (as_head h) body.now }
-    ensures { (result ≡ positions_in (as_head h) body.now k) × (result < 65536) }
-{
-    word(body, k * step_width(h) + step_lead(h))
-}
-
-// Those of them that are reserved for a type, from 0.
-pub fn reserved_in(body: &[u8], h: Head, k: usize, t: usize) -> usize
-    requires institute_body { InstituteBody (as_head h) body.now }
-    requires k_bound { (k < step_count (as_head h) body.now) × (t < h.types) }
-    ensures { (result ≡ reserved_in (as_head h) body.now k t) × (result < 65536) }
-{
-    word(body, k * step_width(h) + step_lead(h) + 2 * (t + 1))
-}
-
-// The code of the category of step k, from 0.
-pub fn step_code(body: &[u8], h: Head, k: usize) -> usize
-    requires institute_body { InstituteBody (as_head h) body.now }
-    requires k_bound { k < step_count (as_head h) body.now }
-    ensures { (result ≡ step_code (as_head h) body.now k) × (result < 256) }
-{
-    if own_steps(h) {
-        from_byte(body[k * step_width(h)])
-    } else {
-        k
-    }
-}
-
-// The number of the step that gets the vacancies of step k, from 0; 0 for none.
-pub fn receiver_in(body: &[u8], h: Head, k: usize) -> usize
-    requires institute_body { InstituteBody (as_head h) body.now }
-    requires k_bound { k < step_count (as_head h) body.now }
-    ensures { result ≡ receiver_in (as_head h) body.now k }
-{
-    if own_steps(h) {
-        from_byte(body[k * step_width(h) + 1])
-    } else if h.policy == 1 && k == 3 {
-        6
-    } else {
-        0
-    }
-}
-
-// The positions of all steps.
-fn positions_sum(body: &[u8], h: Head) -> usize
-    requires { InstituteBody (as_head h) body.now }
-    ensures { result ≡ sum_of (step_count (as_head h) body.now) (positions_in (as_head h) body.now) }
-{
-    let count = step_count(body, h);
-    let mut sum: usize = 0;
-    for k in 0..count {
-        sum += positions_in(body, h, k);
-    }
-    sum
-}
-
-// The reserved positions of step k, from 0.
-fn reserved_sum(body: &[u8], h: Head, k: usize) -> usize
-    requires institute_body { InstituteBody (as_head h) body.now }
-    requires k_bound { k < step_count (as_head h) body.now }
-    ensures { result ≡ sum_of h.types (reserved_in (as_head h) body.now k) }
-{
-    let mut sum: usize = 0;
-    for t in 0..h.types {
-        sum += reserved_in(body, h, k, t);
-    }
-    sum
-}
-
-// Whether in each step the reserved positions sum to at most the positions.
-fn reserved_fit(body: &[u8], h: Head) -> bool
-    requires { InstituteBody (as_head h) body.now }
-    ensures { result
-        ≡ all_of (step_count (as_head h) body.now)
-        (λ k. leb (sum_of h.types (reserved_in (as_head h) body.now k)) (positions_in (as_head h) body.now k)) }
-{
-    let count = step_count(body, h);
-    for k in 0..count {
-        if positions_in(body, h, k) < reserved_sum(body, h, k) {
-            return false;
+impl Steps<'_> {
+    // The number of steps.
+    pub fn count(&self) -> usize
+        ensures { result ≡ step_count (as_head self.now.head) self.now.body.now }
+    {
+        if own_steps(self.head) {
+            self.body.len() / step_width(self.head)
+        } else {
+            5
         }
     }
-    true
-}
 
-// Whether each step has the code of a category.
-fn codes_known(body: &[u8], h: Head) -> bool
-    requires { InstituteBody (as_head h) body.now }
-    ensures { result ≡ all_of (step_count (as_head h) body.now) (λ k. leb (step_code (as_head h) body.now k) 4) }
-{
-    let count = step_count(body, h);
-    for k in 0..count {
-        if 4 < step_code(body, h, k) {
-            return false;
+    // The positions of step k, from 0.
+    pub fn positions(&self, k: usize) -> usize
+        requires { k < step_count (as_head self.now.head) self.now.body.now }
+        ensures { (result ≡ positions_in (as_head self.now.head) self.now.body.now k) × (result < 65536) }
+    {
+        word(self.body, k * step_width(self.head) + step_lead(self.head))
+    }
+
+    // Those of them that are reserved for a type, from 0.
+    pub fn reserved(&self, k: usize, t: usize) -> usize
+        requires { (k < step_count (as_head self.now.head) self.now.body.now) × (t < self.now.head.types) }
+        ensures { (result ≡ reserved_in (as_head self.now.head) self.now.body.now k t) × (result < 65536) }
+    {
+        word(
+            self.body,
+            k * step_width(self.head) + step_lead(self.head) + 2 * (t + 1),
+        )
+    }
+
+    // The code of the category of step k, from 0.
+    pub fn code(&self, k: usize) -> usize
+        requires { k < step_count (as_head self.now.head) self.now.body.now }
+        ensures { (result ≡ step_code (as_head self.now.head) self.now.body.now k) × (result < 256) }
+    {
+        if own_steps(self.head) {
+            usize::from(self.body[k * step_width(self.head)])
+        } else {
+            k
         }
     }
-    true
-}
 
-// Whether the vacancies of step k, from 0, of so many go to nobody or to a later step.
-fn receiver_later(body: &[u8], h: Head, count: usize, k: usize) -> bool
-    requires institute_body { InstituteBody (as_head h) body.now }
-    requires count_value { (count ≡ step_count (as_head h) body.now) × (k < count) }
-    ensures { result
-        ≡ (eqb (receiver_in (as_head h) body.now k) 0
-        || numbers.within (k + 2) count (receiver_in (as_head h) body.now k)) }
-{
-    let receiver = receiver_in(body, h, k);
-    receiver == 0 || within(k + 2, count, receiver)
-}
-
-// Whether each step's vacancies do.
-fn receivers_later(body: &[u8], h: Head) -> bool
-    requires { InstituteBody (as_head h) body.now }
-    ensures { result
-        ≡ all_of (step_count (as_head h) body.now)
-        (λ k. eqb (receiver_in (as_head h) body.now k) 0
-        || numbers.within (k + 2) (step_count (as_head h) body.now) (receiver_in (as_head h) body.now k)) }
-{
-    let count = step_count(body, h);
-    for k in 0..count {
-        if !receiver_later(body, h, count, k) {
-            return false;
+    // The number of the step that gets the vacancies of step k, from 0; 0 for none, as the file has it.
+    pub fn receiver(&self, k: usize) -> usize
+        requires { k < step_count (as_head self.now.head) self.now.body.now }
+        ensures { result ≡ receiver_in (as_head self.now.head) self.now.body.now k }
+    {
+        if own_steps(self.head) {
+            usize::from(self.body[k * step_width(self.head) + 1])
+        } else if self.head.policy == 1 && k == 3 {
+            6
+        } else {
+            0
         }
     }
-    true
-}
 
-// The number of the first question about a list of steps whose answer is no, 0 where each is yes.
-pub fn ask_list(body: &[u8], h: Head) -> usize
-    requires { InstituteBody (as_head h) body.now }
-    ensures { result ≡ first_no (list_questions (as_head h) body.now) }
-{
-    if !codes_known(body, h) {
-        return 17;
+    // The positions of all steps.
+    fn positions_sum(&self) -> usize
+        ensures { result ≡ sum_of (step_count (as_head self.now.head) self.now.body.now) (positions_in (as_head self.now.head) self.now.body.now) }
+    {
+        (0..self.count()).map(|k| self.positions(k)).sum()
     }
-    if !receivers_later(body, h) {
-        return 18;
-    }
-    0
-}
 
-// The number of the first question about an institute's body whose answer is no, 0 where each is yes.
-pub fn ask_institute(body: &[u8], h: Head) -> usize
-    requires { InstituteBody (as_head h) body.now }
-    ensures { result ≡ first_no (institute_questions (as_head h) body.now) }
-{
-    if 1024 < positions_sum(body, h) {
-        return 6;
+    // The reserved positions of step k, from 0.
+    fn reserved_sum(&self, k: usize) -> usize
+        requires { k < step_count (as_head self.now.head) self.now.body.now }
+        ensures { result ≡ sum_of self.now.head.types (reserved_in (as_head self.now.head) self.now.body.now k) }
+    {
+        (0..self.head.types).map(|t| self.reserved(k, t)).sum()
     }
-    if !reserved_fit(body, h) {
-        return 7;
+
+    // Whether in each step the reserved positions sum to at most the positions.
+    fn reserved_fit(&self) -> bool
+        ensures { result
+            ≡ all_of (step_count (as_head self.now.head) self.now.body.now)
+            (λ k. leb (sum_of self.now.head.types (reserved_in (as_head self.now.head) self.now.body.now k)) (positions_in (as_head self.now.head) self.now.body.now k)) }
+    {
+        (0..self.count()).all(|k| self.reserved_sum(k) <= self.positions(k))
     }
-    if own_steps(h) {
-        return ask_list(body, h);
+
+    // Whether each step has the code of a category.
+    fn codes_known(&self) -> bool
+        ensures { result ≡ all_of (step_count (as_head self.now.head) self.now.body.now) (λ k. leb (step_code (as_head self.now.head) self.now.body.now k) 4) }
+    {
+        (0..self.count()).all(|k| self.code(k) <= 4)
     }
-    0
+
+    // Whether the vacancies of step k, from 0, go to nobody or to a later step.
+    fn receiver_later(&self, k: usize) -> bool
+        requires { k < step_count (as_head self.now.head) self.now.body.now }
+        ensures { result
+            ≡ (eqb (receiver_in (as_head self.now.head) self.now.body.now k) 0
+            || numbers.within (k + 2) (step_count (as_head self.now.head) self.now.body.now) (receiver_in (as_head self.now.head) self.now.body.now k)) }
+    {
+        let receiver = self.receiver(k);
+        receiver == 0 || (k + 2..=self.count()).contains(&receiver)
+    }
+
+    // Whether each step's vacancies do.
+    fn receivers_later(&self) -> bool
+        ensures { result
+            ≡ all_of (step_count (as_head self.now.head) self.now.body.now)
+            (λ k. eqb (receiver_in (as_head self.now.head) self.now.body.now k) 0
+            || numbers.within (k + 2) (step_count (as_head self.now.head) self.now.body.now) (receiver_in (as_head self.now.head) self.now.body.now k)) }
+    {
+        (0..self.count()).all(|k| self.receiver_later(k))
+    }
+
+    // Questions 17 and 18 of a list of steps.
+    pub fn ask_list(&self) -> Result<(), Question>
+        ensures { number_in result ≡ first_no (list_questions (as_head self.now.head) self.now.body.now) }
+    {
+        if !self.codes_known() {
+            return Err(Question::Categories);
+        }
+        if !self.receivers_later() {
+            return Err(Question::Receivers);
+        }
+        Ok(())
+    }
+
+    // Questions 6 and 7 and, of an institute that lists its own steps, 17 and 18.
+    pub fn ask(&self) -> Result<(), Question>
+        ensures { number_in result ≡ first_no (institute_questions (as_head self.now.head) self.now.body.now) }
+    {
+        if 1024 < self.positions_sum() {
+            return Err(Question::Positions);
+        }
+        if !self.reserved_fit() {
+            return Err(Question::Reserved);
+        }
+        if own_steps(self.head) {
+            return self.ask_list();
+        }
+        Ok(())
+    }
 }

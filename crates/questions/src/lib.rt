@@ -6,4 +6,5 @@ pub mod form;
 pub mod head;
 pub mod institute;
 pub mod merit;
+pub mod question;
 pub mod row;

@@ -13,8 +13,8 @@ use Rattle.round.specs.declared.entry.Category.{Category}
 use Rattle.round.specs.declared.entry.Category.TheVariants.{Open, SC, ST, OBC, EWS}
 use Rattle.round.specs.declared.entry.Entry.{Entry}
 use Rattle.questions.specs.declared.form.Form.{Form}
-use Rattle.reader.specs.declared.opened.Change.{Change}
-use Rattle.reader.specs.declared.opened.Change.TheVariants.{Nothing, Row, Rise}
+use Rattle.reader.specs.declared.change.Change.{Change}
+use Rattle.reader.specs.declared.change.Change.TheVariants.{Nothing, Row, Rise}
 use Rattle.round.specs.Category.{code_of}
 use Rattle.round.specs.Round.{Institute, Candidate, Round}
 use Rattle.round.specs.Places.{candidate_at, institute_at, merit_at, no_candidate, no_institute}

@@ -1,72 +1,46 @@
 -- The record that is due at a byte, when its lead bytes and its length are as due, and what its questions come to.
-use Prim.Native.Nat.{ℕ, zero, suc, ◌+◌, ◌-◌, ◌≤◌, ◌<◌}
+use Prim.Native.Nat.{ℕ, ◌+◌, ◌-◌, ◌≤◌}
 use mathlib.Core.Path.{◌≡◌, refl, sym, ap, ◌∙◌}
-use mathlib.Core.Bool.{Bool, true, false, not, cond}
+use mathlib.Core.Bool.{Bool, true, false, cond}
 use mathlib.Core.List.{List, [], ◌∷◌, ◌++◌}
 use native.Mathlib.Omega.{arith}
-use borrow.Author.Tests.{leb-true, eq-eqb, ne_eqb, le-leb, lt-leb, not-true, not-false}
+use Rattle.std.specs.Prelude.{Result, Ok, Err}
+use borrow.Author.Tests.{leb-true}
 use lib.Dec.{leb, eqb}
 use lib.ListN.{length, take, drop}
-use Rattle.reader.specs.declared.records.Part.{Part}
-use Rattle.reader.specs.declared.records.Part.TheVariants.{Lawful, Refused}
+use Rattle.questions.specs.declared.question.Question.{Question as Asked}
+use Rattle.questions.specs.declared.question.Question.TheVariants.{Lead, Kind, Length, Body, Head as HeadAsked, Positions, Reserved, Marks, Entries, SameEntries, Places, SamePlaces, End, Areas, List as ListAsked, Input, Categories, Receivers}
+use Rattle.questions.specs.Numbered.{number_of, number_in}
 use Rattle.questions.specs.Records.{Head, kind_at, length_at, body_at, next_at, kind_due}
 use Rattle.questions.specs.Questions.{Question, first_no, lead_questions, kind_questions, questions_at, length_allowed}
-use Rattle.reader.specs.Parts.{part_by}
+use Rattle.reader.specs.Parts.{RecordFound}
 use Rattle.questions.proofs.Passed.{yes}
 use Rattle.questions.proofs.Answers.{body_whole}
 
--- a lawful part is no refusal
-pub no_refusal : {A : Type 0} {end n o : ℕ} → Lawful end ≡ Refused n o → A
-no_refusal {A} {end} {n} {o} e = let z : ◌≡◌ {A = ℕ} 0 1 = cc in absurd (omega arith)
+-- no question has the number 0
+pub some_number : (asked : Asked) → number_of asked ≡ 0 → ⊥
+some_number Lead e = omega arith
+some_number Kind e = omega arith
+some_number Length e = omega arith
+some_number Body e = omega arith
+some_number HeadAsked e = omega arith
+some_number Positions e = omega arith
+some_number Reserved e = omega arith
+some_number Marks e = omega arith
+some_number Entries e = omega arith
+some_number SameEntries e = omega arith
+some_number Places e = omega arith
+some_number SamePlaces e = omega arith
+some_number End e = omega arith
+some_number Areas e = omega arith
+some_number ListAsked e = omega arith
+some_number Input e = omega arith
+some_number Categories e = omega arith
+some_number Receivers e = omega arith
 
-same_end : {a b : ℕ} → Lawful a ≡ Lawful b → a ≡ b
-same_end {a} {b} e = cc
-
-part_zero : (n start end : ℕ) → n ≡ 0 → part_by n start end ≡ Lawful end
-part_zero n start end e = rw (eq-eqb n 0 e)
-
-part_some : (n start end : ℕ) → (n ≡ 0 → ⊥) → part_by n start end ≡ Refused n start
-part_some n start end e = rw (ne_eqb n 0 e)
-
--- the answer, by the first question answered no
-pub refused_by : (number n start end : ℕ) → number ≡ n → eqb number 0 ≡ false → Refused number start ≡ part_by n start end
-refused_by number n start end e d = rw (← e, d)
-
-pub lawful_by : (n start body len read : ℕ) → read ≡ len → 0 ≡ n → Lawful (body + read) ≡ part_by n start (body + len)
-lawful_by n start body len read d e = rw (← e, d)
-
--- questions 1 to 4 by what code has read: at is the byte, n the length of the file
-pub lead_no : {at n : ℕ} → at ≤ n → n - at < 4 → leb (at + 4) n ≡ false
-lead_no {at} {n} l m = lt-leb (at + 4) n (omega arith)
-
-pub lead_there : {at n : ℕ} → at ≤ n → 4 ≤ n - at → leb (at + 4) n ≡ true
-lead_there {at} {n} l m = le-leb (at + 4) n (omega arith)
-
-pub kind_no : {k kind read due : ℕ} → read ≡ k → due ≡ kind → (read ≡ due → ⊥) → eqb k kind ≡ false
-kind_no e f d = ne_eqb _ _ (λ q. d (e ∙ (q ∙ sym f)))
-
-pub kind_due_is : {k kind read due : ℕ} → read ≡ k → due ≡ kind → read ≡ due → eqb k kind ≡ true
-kind_due_is e f d = eq-eqb _ _ (sym e ∙ (d ∙ f))
-
-pub allowed_no : (h : Head) (kind : ℕ) {len read : ℕ} {r : Bool} → read ≡ len → r ≡ length_allowed h kind read → not r ≡ true → length_allowed h kind len ≡ false
-allowed_no h kind e f d = rw e at (sym f ∙ not-true _ d)
-
-pub allowed_yes : (h : Head) (kind : ℕ) {len read : ℕ} {r : Bool} → read ≡ len → r ≡ length_allowed h kind read → not r ≡ false → length_allowed h kind len ≡ true
-allowed_yes h kind e f d = rw e at (sym f ∙ not-false _ d)
-
-pub body_no : {at n len read : ℕ} → read ≡ len → at ≤ n → 4 ≤ n - at → n - (at + 4) < read → leb (at + 4 + len) n ≡ false
-body_no {at} {n} {len} e l m k = lt-leb (at + 4 + len) n (omega arith)
-
-pub body_there : {at n len read : ℕ} → read ≡ len → at ≤ n → 4 ≤ n - at → read ≤ n - (at + 4) → leb (at + 4 + len) n ≡ true
-body_there {at} {n} {len} e l m k = le-leb (at + 4 + len) n (omega arith)
-
--- by the answer, the first question answered no
-pub part_lawful : (n start end e : ℕ) → part_by n start end ≡ Lawful e → (n ≡ 0) × (end ≡ e)
-part_lawful zero start end e p = (refl, same_end p)
-part_lawful (suc n) start end e p = no_refusal (sym p ∙ part_some (suc n) start end (λ z. omega arith))
-
-part_refused : (n start end m o : ℕ) → part_by n start end ≡ Refused m o → n ≡ 0 → ⊥
-part_refused n start end m o p e = no_refusal (sym (part_zero n start end e) ∙ p)
+-- a record that is found is not refused
+pub refused_found : {A B E : Type 0} {end : A} {e : E} → Ok end ≡ Err e → B
+refused_found e = let z : ◌≡◌ {A = ℕ} 0 1 = cc in absurd (omega arith)
 
 -- a question answered no stays the first when more are put
 first_more : (qs rs : List Question) → (first_no qs ≡ 0 → ⊥) → first_no (qs ++ rs) ≡ first_no qs
@@ -108,25 +82,24 @@ module _ (file : List ℕ) (h : Head) (kind start : ℕ) where
       let q = four_yes (leb (start + 4) (length file)) (eqb (kind_at file start) (kind_due h kind)) (length_allowed h kind (length_at file start)) (leb (next_at file start) (length file)) 0 e in
       rw (q.0, q.1, q.2, q.3)
 
-  module _ {r : Part} (got : r ≡ part_by (first_no (lead_questions file h kind start)) start (next_at file start)) where
-    pub found : {end : ℕ} → r ≡ Lawful end → Found end
-    found {end} e =
-        let p = part_lawful _ start (next_at file start) end (sym got ∙ e) in
-        rw p.1 at (lead_found p.0)
+  module _ {r : Result ℕ Asked} (got : RecordFound (first_no (lead_questions file h kind start)) (next_at file start) r) where
+    pub found : {end : ℕ} → r ≡ Ok end → Found end
+    found {end} e = rw (got.found end e) (lead_found (sym got.answer ∙ ap number_in e))
 
-    pub found_behind : {end : ℕ} → r ≡ Lawful end → start + 4 ≤ end
-    found_behind e = omega (arith, (found e).ends)
-
-    pub found_inside : {end : ℕ} → r ≡ Lawful end → end ≤ length file
+    pub found_inside : {end : ℕ} → r ≡ Ok end → end ≤ length file
     found_inside e = (found e).whole
 
     -- a refusal by the first four is one by all
-    pub found_refused : {n o : ℕ} → r ≡ Refused n o → r ≡ part_by (first_no (questions_at file h kind start)) start (next_at file start)
+    pub found_refused : {asked : Asked} → r ≡ Err asked → RecordFound (first_no (questions_at file h kind start)) (next_at file start) (Err asked)
     unfolding questions_at
-    found_refused {n} {o} e =
-        got
-        ∙ ap (λ (k : ℕ). part_by k start (next_at file start))
-        (sym (first_more (lead_questions file h kind start) (kind_questions h kind (body_at file start)) (part_refused _ start _ n o (sym got ∙ e))))
+    found_refused {asked} e =
+        let answer : number_of asked ≡ first_no (lead_questions file h kind start) = sym (ap number_in e) ∙ got.answer in
+        record {
+          answer =
+              answer
+              ∙ sym (first_more (lead_questions file h kind start) (kind_questions h kind (body_at file start)) (λ z. some_number asked (answer ∙ z)));
+          found = λ end z. refused_found (sym z);
+        }
 
   module _ {end : ℕ} (f : Found end) where
     -- the part of the file behind the lead bytes is the body
@@ -140,12 +113,12 @@ module _ (file : List ℕ) (h : Head) (kind start : ℕ) where
         ap (λ (s : List ℕ). length_allowed h kind (length s)) the_body
         ∙ (ap (length_allowed h kind) (body_whole file start (omega (arith, f.ends, f.whole))) ∙ f.allowed)
 
-    module _ {number : ℕ} (e : number ≡ first_no (kind_questions h kind (take (end - (start + 4)) (drop (start + 4) file)))) where
-      all_number : first_no (questions_at file h kind start) ≡ number
-      all_number = lead_then f.lead_yes ∙ sym (e ∙ ap (λ (s : List ℕ). first_no (kind_questions h kind s)) the_body)
+    module _ {A : Type 0} (r : Result A Asked) (e : number_in r ≡ first_no (kind_questions h kind (take (end - (start + 4)) (drop (start + 4) file)))) where
+      all_number : number_in r ≡ first_no (questions_at file h kind start)
+      all_number = e ∙ ap (λ (s : List ℕ). first_no (kind_questions h kind s)) the_body ∙ sym (lead_then f.lead_yes)
 
-      pub record_lawful : number ≡ 0 → Lawful end ≡ part_by (first_no (questions_at file h kind start)) start (next_at file start)
-      record_lawful z = ap Lawful f.ends ∙ sym (part_zero _ start (next_at file start) (all_number ∙ z))
+      pub record_found : {what : A} → r ≡ Ok what → RecordFound (first_no (questions_at file h kind start)) (next_at file start) (Ok end)
+      record_found z = record { answer = sym (ap number_in z) ∙ all_number; found = λ n q. let s : n ≡ end = cc in s ∙ f.ends }
 
-      pub record_refused : (number ≡ 0 → ⊥) → Refused number start ≡ part_by (first_no (questions_at file h kind start)) start (next_at file start)
-      record_refused z = sym (part_some _ start (next_at file start) (λ q. z (sym all_number ∙ q)) ∙ ap (λ (n : ℕ). Refused n start) all_number)
+      pub record_refused : {asked : Asked} → r ≡ Err asked → RecordFound (first_no (questions_at file h kind start)) (next_at file start) (Err asked)
+      record_refused z = record { answer = sym (ap number_in z) ∙ all_number; found = λ n q. refused_found (sym q) }

@@ -2,7 +2,7 @@
 use Prim.Native.Nat.{ℕ, zero, suc, ◌+◌, ◌*◌, ◌<◌, ◌≤◌}
 use mathlib.Core.Path.{◌≡◌, refl, sym, ap, ap₂, ◌∙◌}
 use mathlib.Core.Bool.{Bool, true, false, cond, ◌&&◌}
-use mathlib.Core.List.{List, [], ◌∷◌, ◌++◌}
+use mathlib.Core.List.{List, [], ◌∷◌, ◌++◌, append-nil}
 use native.Mathlib.Omega.{arith}
 use native.Mathlib.Nat.{mul-le-mul, mul-le-mul_right}
 use borrow.Author.Tests.{leb-true, leb-false, le-leb, ne_eqb, eqb-true}
@@ -18,7 +18,7 @@ use Rattle.questions.specs.Steps.{step_width}
 use Rattle.questions.specs.Questions.{even, row_allowed, institute_allowed, first_no, questions_at, kind_questions, length_allowed}
 use Rattle.questions.specs.Refusal.{Verdict, passes, refused, verdict_from, verdict}
 use Rattle.questions.specs.Read.{InRange}
-use Rattle.lists.proofs.Words.{and_fst, append_none}
+use Rattle.lists.proofs.Words.{and_fst}
 use Rattle.questions.proofs.Steps.{width_most}
 use Rattle.questions.proofs.Passed.{judged_yes, ending_yes}
 use Rattle.questions.proofs.Answers as answers
@@ -77,7 +77,7 @@ total_due : (h : Head) → InRange h → 12 + total h (due_after h) ≤ file_mos
 total_due h y =
     let n : ℕ = h.candidates in
     let m : ℕ = h.institutes in
-    let lists : total h (replicate m 4) ≡ m * (4 + 2 * n) + 0 = rw append_none at (total_run h m 4 []) in
+    let lists : total h (replicate m 4) ≡ m * (4 + 2 * n) + 0 = rw append-nil at (total_run h m 4 []) in
     omega (
       arith,
       total_run h m 2 (replicate n 3 ++ replicate m 4),

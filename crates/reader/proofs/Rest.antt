@@ -1,46 +1,32 @@
 -- What the records after the head come to, put together from the three kinds in a row; and the whole file.
-use Prim.Native.Nat.{ℕ, ◌+◌, ◌*◌, ◌-◌, ◌≤◌}
-use mathlib.Core.Path.{◌≡◌, refl, sym, ap, ap₂, ◌∙◌}
-use mathlib.Core.Bool.{Bool, true, false, cond}
-use mathlib.Core.List.{List, [], ◌++◌}
+use Prim.Native.Nat.{ℕ, ◌+◌, ◌-◌, ◌≤◌}
+use mathlib.Core.Path.{◌≡◌, sym, ap, ap₂, ◌∙◌}
+use mathlib.Core.Bool.{cond}
+use mathlib.Core.List.{List, [], ◌++◌, append-nil}
 use native.Mathlib.Omega.{arith}
 use native.Mathlib.Nat.{zero-add}
+use Rattle.std.specs.Prelude.{Result, Ok, Err}
 use borrow.Author.Tests.{eq-eqb, ne_eqb}
 use lib.Dec.{eqb}
 use lib.ListN.{length, take, drop, replicate}
 use Rattle.questions.specs.declared.head.Head.{Head as CodeHead}
-use Rattle.reader.specs.declared.records.Part.{Part}
-use Rattle.reader.specs.declared.records.Part.TheVariants.{Lawful, Refused as PartRefused}
 use Rattle.questions.specs.declared.form.Form.{Form}
-use Rattle.reader.specs.declared.reader.Reading.{Reading}
-use Rattle.reader.specs.declared.reader.Reading.TheVariants.{Read, Refused}
+use Rattle.questions.specs.declared.question.Question.TheVariants.{End}
+use Rattle.questions.specs.Numbered.{number_of}
 use Rattle.questions.specs.Records.{Head, form_of, head_in, head_of, due_after, length_at, body_at, next_at, start_of}
 use Rattle.questions.specs.Questions.{first_no, questions_at}
 use Rattle.questions.specs.Refusal.{Verdict, passes, refused, verdict_from, verdict}
 use Rattle.questions.specs.Read.{as_head, InRange}
-use Rattle.reader.specs.Parts.{part_by, onward, RunPart, StartsTo, RunRead}
-use Rattle.reader.specs.Outcome.{verdict_of, refusal_of, RestRead, RoundRead}
-use Rattle.lists.proofs.Words.{append_none}
-use Rattle.questions.proofs.Forms.{institutes_few}
+use Rattle.reader.specs.declared.refusal.Refusal.{Refusal}
+use Rattle.reader.specs.Parts.{RecordRead, onward, StartsTo, RunRead}
+use Rattle.reader.specs.Outcome.{RestRead, RoundRead}
 use Rattle.questions.proofs.Answers as answers
-use Rattle.reader.proofs.Found.{part_lawful}
+use Rattle.reader.proofs.Found.{refused_found}
+use Rattle.reader.proofs.Run.{judged}
 
--- a refusal has no round
-not_read : {A : Type 0} {r : Reading} {n o : ℕ} (k : CodeHead) → r ≡ Refused n o → r ≡ Read k → A
-not_read {A} {r} {n} {o} k e d = let z : ◌≡◌ {A = ℕ} 0 1 = cc in absurd (omega arith)
-
--- a lawful part ends within the file
-pub part_inside : {file : List ℕ} {h : Head} {kind count from end : ℕ} {r : Part} → RunPart file h kind count from r → r ≡ Lawful end → end ≤ length file
-part_inside R e = R.inside _ e
-
--- and no further than its records may be long
-pub part_low : {file : List ℕ} {h : Head} {kind first count from end : ℕ} {before starts : List ℕ} {r : Part} → RunRead file h kind first count from before r starts
-    → r ≡ Lawful end → end ≤ 1028 * (1 + (first + count))
-part_low R e = R.low _ e
-
--- the table has a place for each record
-pub records_few : (k : CodeHead) → InRange (as_head k) → k.institutes + (k.candidates + k.institutes) ≤ 2512
-records_few k y = omega (arith, y.candidates_most, y.institutes_most_is, institutes_few k.form)
+-- what goes on from a result, by the result
+onward_is : {r s : Result ℕ Refusal} {v : Verdict} (rest : ℕ → Verdict) → r ≡ s → onward r rest ≡ v → onward s rest ≡ v
+onward_is rest e d = ap (λ (p : Result ℕ Refusal). onward p rest) (sym e) ∙ d
 
 module _ (file : List ℕ) (k : CodeHead) (from : ℕ) where
   lists : List ℕ
@@ -49,54 +35,36 @@ module _ (file : List ℕ) (k : CodeHead) (from : ℕ) where
   rows : List ℕ
   rows = replicate k.candidates 3 ++ lists
 
-  -- a part that is refused hands its refusal up
-  refused_part : {got : Part} {n o : ℕ} (kinds : List ℕ) (v : Verdict) → got ≡ PartRefused n o → onward got (verdict_from file (as_head k) kinds) ≡ v → refused n o ≡ v
-  refused_part kinds v e d = ap (λ (p : Part). onward p (verdict_from file (as_head k) kinds)) (sym e) ∙ d
+  rest_refused : {f : Refusal} (s : List ℕ) → refused (number_of f.question) f.offset ≡ verdict_from file (as_head k) (due_after (as_head k)) from
+      → RestRead file (as_head k) from (Err f) s
+  rest_refused s d = record { answer = d; head = λ j q. refused_found (sym q); table = λ j q. refused_found (sym q) }
 
-  -- after one that is lawful the verdict is on the rest
-  after_part : {got : Part} {end : ℕ} (kinds : List ℕ) (v : Verdict) → got ≡ Lawful end → onward got (verdict_from file (as_head k) kinds) ≡ v → verdict_from file (as_head k) kinds end ≡ v
-  after_part kinds v e d = ap (λ (p : Part). onward p (verdict_from file (as_head k) kinds)) (sym e) ∙ d
-
-  rest_refused : {r : Reading} {n o : ℕ} (s : List ℕ) → r ≡ Refused n o → refused n o ≡ verdict_from file (as_head k) (due_after (as_head k)) from
-      → RestRead file (as_head k) from r s
-  rest_refused {r} s e d = record { answer = ap verdict_of e ∙ d; head = λ j q. not_read j e q; table = λ j q. not_read j e q }
-
-  up : {r : Reading} {got : Part} {n o : ℕ} → r ≡ refusal_of got → got ≡ PartRefused n o → r ≡ Refused n o
-  up e d = e ∙ ap refusal_of d
-
-  module _ {r₁ : Part} {s₀ s₁ : List ℕ} (R₁ : RunRead file (as_head k) 2 0 k.institutes from s₀ r₁ s₁) where
-    pub institutes_refused : {r : Reading} {n o : ℕ} (s : List ℕ) → r ≡ refusal_of r₁ → r₁ ≡ PartRefused n o → RestRead file (as_head k) from r s
-    unfolding rows lists
-    institutes_refused s e d = rest_refused s (up e d) (refused_part rows _ d (R₁.part.verdict_of_is rows))
-
-    module _ {e₁ : ℕ} (l₁ : r₁ ≡ Lawful e₁) {r₂ : Part} {s₂ : List ℕ} (R₂ : RunRead file (as_head k) 3 k.institutes k.candidates e₁ s₁ r₂ s₂) where
+  module _ {r₁ : Result ℕ Refusal} {s₀ s₁ : List ℕ} (R₁ : RunRead file (as_head k) 2 0 k.institutes from s₀ r₁ s₁) where
+    module _ {e₁ : ℕ} (l₁ : r₁ ≡ Ok e₁) {r₂ : Result ℕ Refusal} {s₂ : List ℕ} (R₂ : RunRead file (as_head k) 3 k.institutes k.candidates e₁ s₁ r₂ s₂) where
       rows_verdict : onward r₂ (verdict_from file (as_head k) lists) ≡ verdict_from file (as_head k) (due_after (as_head k)) from
       unfolding rows lists
-      rows_verdict = R₂.part.verdict_of_is lists ∙ after_part rows _ l₁ (R₁.part.verdict_of_is rows)
+      rows_verdict = R₂.part.verdict_of_is lists ∙ onward_is (verdict_from file (as_head k) rows) l₁ (R₁.part.verdict_of_is rows)
 
-      pub rows_refused : {r : Reading} {n o : ℕ} (s : List ℕ) → r ≡ refusal_of r₂ → r₂ ≡ PartRefused n o → RestRead file (as_head k) from r s
-      rows_refused s e d = rest_refused s (up e d) (refused_part lists _ d rows_verdict)
-
-      module _ {e₂ : ℕ} (l₂ : r₂ ≡ Lawful e₂) {r₃ : Part} {s₃ : List ℕ} (R₃ : RunRead file (as_head k) 4 (k.institutes + k.candidates) k.institutes e₂ s₂ r₃ s₃) where
+      module _ {e₂ : ℕ} (l₂ : r₂ ≡ Ok e₂) {r₃ : Result ℕ Refusal} {s₃ : List ℕ} (R₃ : RunRead file (as_head k) 4 (k.institutes + k.candidates) k.institutes e₂ s₂ r₃ s₃) where
         lists_verdict : onward r₃ (verdict_from file (as_head k) []) ≡ verdict_from file (as_head k) (due_after (as_head k)) from
         unfolding lists
         lists_verdict =
             R₃.part.verdict_of_is []
-            ∙ (ap (λ (s : List ℕ). verdict_from file (as_head k) s e₂) (append_none lists) ∙ after_part lists _ l₂ rows_verdict)
+            ∙ (ap (λ (s : List ℕ). verdict_from file (as_head k) s e₂) (append-nil lists) ∙ onward_is (verdict_from file (as_head k) lists) l₂ rows_verdict)
 
-        pub lists_refused : {r : Reading} {n o : ℕ} (s : List ℕ) → r ≡ refusal_of r₃ → r₃ ≡ PartRefused n o → RestRead file (as_head k) from r s
-        lists_refused s e d = rest_refused s (up e d) (refused_part [] _ d lists_verdict)
+        pub lists_refused : {f : Refusal} (s : List ℕ) → r₃ ≡ Err f → RestRead file (as_head k) from (Err f) s
+        lists_refused s d = rest_refused s (onward_is (verdict_from file (as_head k) []) d lists_verdict)
 
-        module _ {e₃ : ℕ} (l₃ : r₃ ≡ Lawful e₃) where
+        module _ {e₃ : ℕ} (l₃ : r₃ ≡ Ok e₃) where
           end_verdict : cond (eqb e₃ (length file)) passes (refused 13 e₃) ≡ verdict_from file (as_head k) (due_after (as_head k)) from
           unfolding verdict_from
-          end_verdict = after_part [] _ l₃ lists_verdict
+          end_verdict = onward_is (verdict_from file (as_head k) []) l₃ lists_verdict
 
           -- 13
-          pub more_refused : (s : List ℕ) → (e₃ ≡ length file → ⊥) → RestRead file (as_head k) from (Refused 13 e₃) s
-          more_refused s d = rest_refused s refl (rw (ne_eqb e₃ (length file) d) at end_verdict)
+          pub more_refused : (s : List ℕ) → (e₃ ≡ length file → ⊥) → RestRead file (as_head k) from (Err (record { question = End; offset = e₃ })) s
+          more_refused s d = rest_refused s (rw (ne_eqb e₃ (length file) d) at end_verdict)
 
-          pub rest_read : e₃ ≡ length file → RestRead file (as_head k) from (Read k) s₃
+          pub rest_read : e₃ ≡ length file → RestRead file (as_head k) from (Ok k) s₃
           rest_read d = record {
             answer = rw (eq-eqb e₃ (length file) d) at end_verdict;
             head = λ j q. let s : j ≡ k = cc in ap as_head s;
@@ -125,32 +93,24 @@ pub head_questions_lem : (file : List ℕ) (h : Head) → h.form ≡ form_of fil
 unfolding questions_at
 head_questions_lem file h e = rw e
 
-module _ (file : List ℕ) {r₀ : Part} (h₀ : CodeHead) {form : Form} (f : form ≡ form_of file) (formed : h₀.form ≡ form) (got : r₀ ≡ part_by (first_no (questions_at file (as_head h₀) 1 0)) 0 (next_at file 0)) where
-  head_got : r₀ ≡ part_by (first_no (questions_at file (head_of file) 1 0)) 0 (next_at file 0)
-  head_got = got ∙ ap (λ q. part_by (first_no q) 0 (next_at file 0)) (head_questions_lem file (as_head h₀) (formed ∙ f))
+module _ (file : List ℕ) {r₀ : Result ℕ Refusal} (h₀ : CodeHead) {form : Form} (f : form ≡ form_of file) (formed : h₀.form ≡ form) (got : RecordRead (first_no (questions_at file (as_head h₀) 1 0)) 0 (next_at file 0) r₀) where
+  head_got : RecordRead (first_no (questions_at file (head_of file) 1 0)) 0 (next_at file 0) r₀
+  head_got = rw (head_questions_lem file (as_head h₀) (formed ∙ f)) at got
 
   head_verdict : onward r₀ (verdict_from file (head_of file) (due_after (head_of file))) ≡ verdict file
   unfolding verdict
-  head_verdict = ap (λ (p : Part). onward p (verdict_from file (head_of file) (due_after (head_of file)))) head_got ∙ go (eqb (first_no (questions_at file (head_of file) 1 0)) 0)
-    where
-      go : (b : Bool)
-          → onward (cond b (Lawful (next_at file 0)) (PartRefused (first_no (questions_at file (head_of file) 1 0)) 0)) (verdict_from file (head_of file) (due_after (head_of file)))
-          ≡ cond b (verdict_from file (head_of file) (due_after (head_of file)) (next_at file 0)) (refused (first_no (questions_at file (head_of file) 1 0)) 0)
-      go true = refl
-      go false = refl
+  head_verdict = judged (verdict_from file (head_of file) (due_after (head_of file))) head_got
 
-  pub round_refused : {r : Reading} {n o : ℕ} (s : List ℕ) → r ≡ refusal_of r₀ → r₀ ≡ PartRefused n o → RoundRead file r s
-  round_refused {r} {n} {o} s e d =
-      let up : r ≡ Refused n o = e ∙ ap refusal_of d in
-      record {
-        answer = ap verdict_of up ∙ (ap (λ (p : Part). onward p (verdict_from file (head_of file) (due_after (head_of file)))) (sym d) ∙ head_verdict);
-        head = λ j q. not_read j up q;
-        table = λ j q. not_read j up q;
-      }
+  pub round_refused : {f : Refusal} (s : List ℕ) → r₀ ≡ Err f → RoundRead file (Err f) s
+  round_refused s d = record {
+    answer = onward_is (verdict_from file (head_of file) (due_after (head_of file))) d head_verdict;
+    head = λ j q. refused_found (sym q);
+    table = λ j q. refused_found (sym q);
+  }
 
-  module _ {end : ℕ} (l : r₀ ≡ Lawful end) where
-    head_zero : (first_no (questions_at file (head_of file) 1 0) ≡ 0) × (next_at file 0 ≡ end)
-    head_zero = part_lawful _ 0 (next_at file 0) end (sym head_got ∙ l)
+  module _ {end : ℕ} (l : r₀ ≡ Ok end) where
+    head_zero : (first_no (questions_at file (head_of file) 1 0) ≡ 0) × (end ≡ next_at file 0)
+    head_zero = head_got.found end l
 
     lead : answers.LeadYes file (head_of file) 1 0
     lead = answers.lead_yes file (head_of file) 1 0 head_zero.0
@@ -160,9 +120,6 @@ module _ (file : List ℕ) {r₀ : Part} (h₀ : CodeHead) {form : Form} (f : fo
 
     head_end : end ≡ 12
     head_end = omega (arith, head_zero.1, head_length)
-
-    pub head_behind : 4 ≤ end
-    head_behind = omega (arith, head_end)
 
     pub head_low : end ≤ 12
     head_low = omega (arith, head_end)
@@ -185,12 +142,12 @@ module _ (file : List ℕ) {r₀ : Part} (h₀ : CodeHead) {form : Form} (f : fo
       pub head_range : InRange (as_head k)
       head_range = rw same_head (answers.head_yes (form_of file) (body_at file 0) lead.body_yes)
 
-      pub round_read : {r : Reading} {s : List ℕ} → RestRead file (as_head k) end r s → RoundRead file r s
+      pub round_read : {r : Result CodeHead Refusal} {s : List ℕ} → RestRead file (as_head k) end r s → RoundRead file r s
       unfolding start_of
       round_read {r} {s} R' =
           let R : RestRead file (head_of file) end r s = rw same_head at R' in
           record {
-            answer = R.answer ∙ (ap (λ (p : Part). onward p (verdict_from file (head_of file) (due_after (head_of file)))) (sym l) ∙ head_verdict);
+            answer = R.answer ∙ onward_is (verdict_from file (head_of file) (due_after (head_of file))) l head_verdict;
             head = R.head;
-            table = λ j q. R.table j q (sym head_zero.1);
+            table = λ j q. R.table j q head_zero.1;
           }

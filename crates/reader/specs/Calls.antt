@@ -1,9 +1,7 @@
 -- What any call comes to, and what it leaves in the areas lent to it (document 01, "The questions, in order" and "Offers").
-use Rattle.std.specs.Prelude.{ℕ, ◌*◌, Bool, cond, List, ◌++◌, length, drop, replicate}
-use Rattle.reader.specs.declared.reader.Reading.{Reading}
-use Rattle.reader.specs.declared.reader.Reading.TheVariants.{Read}
-use Rattle.reader.specs.declared.reader.Reading.TheVariants.{Refused as ReadingRefused}
-use Rattle.reader.specs.declared.reader.Refusal.{Refusal}
+use Rattle.std.specs.Prelude.{ℕ, ◌*◌, Bool, cond, List, ◌++◌, length, drop, replicate, Result, Ok, Err}
+use Rattle.questions.specs.Numbered.{number_of}
+use Rattle.reader.specs.declared.refusal.Refusal.{Refusal}
 use Rattle.round.specs.Round.{Round}
 use Rattle.questions.specs.Refusal as verdicts
 use Rattle.questions.specs.Refusal.{Verdict}
@@ -12,6 +10,11 @@ use Rattle.questions.specs.Refusal.{Verdict}
 pub data Outcome (A : Type 0) : Type 0 where
   said : A → Outcome A
   refused : ℕ → ℕ → Outcome A
+
+-- what the result of the code says, by what it says of a value
+abbrev pub told : {A B : Type 0} → (A → B) → Result A Refusal → Outcome B
+told says (Ok what) = said (says what)
+told says (Err f) = refused (number_of f.question) f.offset
 
 -- the questions about the file are put first; where each is answered yes, the rest stands
 abbrev pub on_file : {A : Type 0} → Verdict → Outcome A → Outcome A
@@ -34,8 +37,3 @@ work_size r = 8 * length r.candidates
 -- the work area after a call: these bytes are 0 and the rest stay
 abbrev pub work_by : {A : Type 0} → Outcome A → Round → List ℕ → List ℕ
 work_by outcome r work = area_by outcome (replicate (work_size r) 0) work
-
--- the refusal of a file that was not read; one that was read is never handed up, and what is given for it is of no matter
-abbrev pub refusal_in : Reading → Refusal
-refusal_in (Read h) = record { number = 14; offset = 0 }
-refusal_in (ReadingRefused number offset) = record { number = number; offset = offset }

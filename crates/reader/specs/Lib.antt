@@ -3,6 +3,7 @@ pub mod Calls
 pub mod Parts
 pub mod Outcome
 pub mod Opened
+pub mod AtHand
 pub mod Replaced
 pub mod Rewritten
 pub mod RulesRead

@@ -1,10 +1,10 @@
 -- The opened round: that of an accepted file, or one that differs from it by a row or by a rise, read from the same file, unwritten.
+use Rattle.std.proofs.Props.{props}
 use Rattle.std.specs.Prelude.{ℕ, ◌*◌, ◌<◌, ◌≤◌, ◌≡◌, Bool, false, cond, List, eqb, length}
 use Rattle.questions.specs.declared.head.Head.{Head as CodeHead}
 use Rattle.questions.specs.declared.form.Form.{Form}
-use Rattle.reader.specs.declared.opened.Change.{Change}
-use Rattle.reader.specs.declared.opened.Change.TheVariants.{Nothing, Row, Rise}
-use Rattle.reader.specs.declared.opened.Opened.{Opened}
+use Rattle.reader.specs.declared.change.Change.{Change}
+use Rattle.reader.specs.declared.change.Change.TheVariants.{Nothing, Row, Rise}
 use Rattle.round.specs.Category.{code_of}
 use Rattle.questions.specs.Form.{entry_width}
 use Rattle.round.specs.Round.{Round}
@@ -24,11 +24,8 @@ changed (Row candidate) form row r = with_row r candidate (row_in form row)
 changed (Rise institute place by) form row r = raised r institute place by
 
 -- the opened round, of a file, with the change and the new row
-unfoldable pub opened_round : List ℕ → Opened → List ℕ → Round
-opened_round file o row = changed o.change (form_of file) row (round_of file)
-
-abbrev pub unchanged : CodeHead → Opened
-unchanged h = record { head = h; change = Nothing }
+unfoldable pub opened_round : List ℕ → Change → List ℕ → Round
+opened_round file change row = changed change (form_of file) row (round_of file)
 
 -- the change is to candidate i's row
 abbrev pub replaces : Change → ℕ → Bool
@@ -67,8 +64,17 @@ LawfulChange (Row candidate) form row r = LawfulRow form r candidate row
 LawfulChange (Rise institute place by) form row r = LawfulRise r institute place by
 
 -- the bytes and the table at hand are those of the round: an accepted file with its head, where its records start, and a lawful change
-pub record OpenedFile (file : List ℕ) (o : Opened) (row starts : List ℕ) : Type 0 where
+pub record OpenedFile (file : List ℕ) (h : CodeHead) (change : Change) (row starts : List ℕ) : Type 0 where
   pub accepted : verdict file ≡ passes
-  pub head : as_head o.head ≡ head_of file
+  pub head : as_head h ≡ head_of file
   pub table : Starts file starts
-  pub change : LawfulChange o.change (form_of file) row (round_of file)
+  pub lawful : LawfulChange change (form_of file) row (round_of file)
+
+-- each of these facts has at most one proof
+pub lawful_prop : (change : Change) (form : Form) (row : List ℕ) (r : Round) → IsProp (LawfulChange change form row r)
+lawful_prop Nothing form row r = hlevel props
+lawful_prop (Row candidate) form row r = hlevel props
+lawful_prop (Rise institute place by) form row r = hlevel props
+
+pub opened_prop : (file : List ℕ) (h : CodeHead) (change : Change) (row starts : List ℕ) → IsProp (OpenedFile file h change row starts)
+opened_prop file h change row starts = hlevel (props, lawful_prop change (form_of file) row (round_of file))

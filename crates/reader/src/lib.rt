@@ -2,7 +2,9 @@
 #![tactic(auto)]
 
 pub mod access;
+pub mod change;
 pub mod opened;
 pub mod reader;
 pub mod records;
+pub mod refusal;
 pub mod rules;

@@ -1,59 +1,39 @@
-// The rules of an institute's steps, as a table that its choice goes by.
-ghost use Rattle.std.specs.Prelude.{◌≡◌, ◌+◌, ◌*◌, ◌≤◌, ◌<◌, length};
+// The rules of an institute's steps, by which its choice goes.
+ghost use Rattle.std.specs.Prelude.{◌≡◌, ◌≤◌, ◌<◌};
 ghost use Rattle.questions.specs.Steps.{step_count};
-ghost use Rattle.questions.specs.Read.{as_head, InstituteBody, LawfulSteps};
-ghost use Rattle.reader.specs.RulesRead.{rule_numbers, RuleWritten, RulesRead};
+ghost use Rattle.questions.specs.Read.{as_head, LawfulSteps};
+ghost use Rattle.reader.specs.RulesRead.{RuleRead, RulesRead};
 
-use questions::head::Head;
-use questions::institute::{positions_in, receiver_in, reserved_in, step_code, step_count};
+use questions::institute::Steps;
+use round::entry::Category;
+use round::rule::Rule;
 
-// A table for the rules of twelve steps.
-pub fn rule_table() -> [usize; 132]
-    ensures { length result ≡ 132 }
+// Reads the rule of step k, from 0, into its place in a table. Not returned, since a rule that is returned is copied.
+fn read_rule(steps: &Steps<'_>, k: usize, rule: &mut Rule)
+    requires { k < step_count (as_head steps.now.head) steps.now.body.now }
+    ensures { RuleRead (as_head steps.now.head) steps.now.body.now k rule.new }
 {
-    [0; 132]
-}
-
-// Writes the row of step k, from 0.
-fn write_rule(body: &[u8], h: Head, k: usize, table: &mut [usize])
-    requires institute_body { InstituteBody (as_head h) body.now }
-    requires k_bound { (k < step_count (as_head h) body.now) × (k * (3 + h.types) + (3 + h.types) ≤ length table.old) }
-    ensures { RuleWritten h.types k (rule_numbers (as_head h) body.now k) table.old table.new }
-{
-    let at = k * (3 + h.types);
-    table[at] = step_code(body, h, k);
-    table[at + 1] = receiver_in(body, h, k);
-    table[at + 2] = positions_in(body, h, k);
-    for t in 0..h.types {
-        table[at + 3 + t] = reserved_in(body, h, k, t);
+    rule.category = Category::from(steps.code(k) as u8);
+    rule.receiver = steps.receiver(k);
+    rule.positions = steps.positions(k);
+    for (t, own) in rule.reserved[..steps.head.types].iter_mut().enumerate() {
+        *own = steps.reserved(k, t);
     }
 }
 
-// Writes the row of step 6 of policy 1: open entries, no positions of its own, none reserved, nobody to hand on to.
-fn write_dereserved(types: usize, table: &mut [usize])
-    requires { (types ≤ 8) × (6 * (3 + types) ≤ length table.old) }
-    ensures { RuleWritten types 5 (λ s. 0) table.old table.new }
+// The rules of the steps of an institute's body, put into a table; under policy 1 that of step 6 stands behind them.
+pub fn rules_of<'r>(steps: &Steps<'_>, table: &'r mut [Rule; 12]) -> &'r [Rule]
+    requires { LawfulSteps (as_head steps.now.head) steps.now.body.now }
+    ensures { RulesRead (as_head steps.now.head) steps.now.body.now result.now }
 {
-    let at = 5 * (3 + types);
-    for s in 0..3 + types {
-        table[at + s] = 0;
+    let count = steps.count();
+    for (k, rule) in table[..count].iter_mut().enumerate() {
+        read_rule(steps, k, rule);
     }
-}
-
-// Writes the rules of an institute's body, and returns how many steps there are.
-pub fn rules_of(body: &[u8], h: Head, table: &mut [usize]) -> usize
-    requires lawful_steps { LawfulSteps (as_head h) body.now }
-    requires in_bounds { 132 ≤ length table.old }
-    ensures { RulesRead (as_head h) body.now table.new result }
-{
-    let count = step_count(body, h);
-    for k in 0..count {
-        write_rule(body, h, k, table);
-    }
-    if h.policy == 1 {
-        write_dereserved(h.types, table);
-        6
+    if steps.head.policy == 1 {
+        table[5] = Rule::NONE;
+        &table[..6]
     } else {
-        count
+        &table[..count]
     }
 }

@@ -1,6 +1,5 @@
 pub mod NobodyWrong
 pub mod SeatsOffered
-pub mod Named
 pub mod EntryAdded
 pub mod EntriesAbove
 pub mod SeatsRight

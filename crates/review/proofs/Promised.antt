@@ -8,6 +8,8 @@ use Rattle.questions.specs.Records.{form_of}
 use Rattle.questions.specs.Reading.{round_of}
 use Rattle.questions.specs.Refusal.{verdict, passes as passes-all}
 use Rattle.reader.specs.Calls.{said, work_size}
+use Rattle.reader.specs.declared.refusal.Refusal.{Refusal}
+use Rattle.std.specs.Prelude.{Result}
 use Rattle.reader.proofs.Calls.{said_passes, asks_yes}
 use Rattle.reader.proofs.Sound.{sound}
 use Rattle.lists.proofs.Words.{length_tabulate}
@@ -51,6 +53,6 @@ module _ (file list work : List ℕ) where
       e ∙ ap said (is ∙ ap (finding (round_of file)) own ∙ own_passes (sound file pass))
 
   -- the answer and the work area are the defined ones
-  pub promised : {result : Judgement} {workNow : List ℕ} → outcome_of result ≡ outcome file list (length work) → workNow ≡ work_after file list work
+  pub promised : {result : Result Judgement Refusal} {workNow : List ℕ} → outcome_of result ≡ outcome file list (length work) → workNow ≡ work_after file list work
       → Promise file list work result workNow
   promised told left = record { answered = told; work_area = left; only_stable = only_stable_lem; every_stable = every_stable_lem; own_list = own_list_lem }

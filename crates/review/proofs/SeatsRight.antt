@@ -12,7 +12,8 @@ use Rattle.round.specs.declared.entry.Category.{Category}
 use Rattle.round.specs.declared.entry.Entry.{Entry}
 use Rattle.round.specs.Round.{Round}
 use Rattle.round.specs.Places.{candidate_at, entry_at}
-use Rattle.lists.proofs.Words.{and_fst, and_snd, or_cases}
+use Rattle.std.proofs.lemmas.Bool.{or_cases}
+use Rattle.lists.proofs.Words.{and_fst, and_snd}
 use Rattle.lists.proofs.Counting.{test, or_left, or_right, and_true}
 use Rattle.choice.proofs.Offers.{Within, same_self, same_category_lem}
 use Rattle.offers.specs.Rows.{row_at, rank_in, entry_of, same_category, category_at}

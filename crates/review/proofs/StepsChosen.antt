@@ -7,7 +7,8 @@ use native.Mathlib.Omega.{arith}
 use lib.ListN.{length, get_or, replicate, get_or-replicate, get_or-eq_default}
 use borrow.Author.Tests.{eqb-true, lt-ltb, not-false}
 use Rattle.round.specs.declared.entry.Category.{Category}
-use Rattle.reader.specs.declared.opened.Opened.{Opened}
+use Rattle.questions.specs.declared.head.Head.{Head as CodeHead}
+use Rattle.reader.specs.declared.change.Change.{Change}
 use Rattle.round.specs.Round.{Round, Institute}
 use Rattle.round.specs.Places.{no_institute}
 use Rattle.reader.specs.Opened.{opened_round, OpenedFile}
@@ -45,16 +46,16 @@ module _ (r : Round) (j : ℕ) (offer : ℕ → ℕ) (i : ℕ) where
       (λ l. step_absent r j (offers_by offer) i (λ m. omega arith))
 
 -- every institute has chosen, and nobody had a step before
-module _ {file : List ℕ} {o : Opened} {row starts : List ℕ} (at : OpenedFile file o row starts)
-    {asked wanted fresh steps₀ steps : List ℕ} (chosen : ChosenAll (opened_round file o row) asked wanted fresh o.head.institutes steps₀ steps)
-    (marked : fresh ≡ replicate 1000 1) (none : steps₀ ≡ replicate o.head.candidates 0) where
+module _ {file : List ℕ} {h : CodeHead} {change : Change} {row starts : List ℕ} (at : OpenedFile file h change row starts)
+    {asked wanted fresh steps₀ steps : List ℕ} (chosen : ChosenAll (opened_round file change row) asked wanted fresh h.institutes steps₀ steps)
+    (marked : fresh ≡ replicate 1000 1) (none : steps₀ ≡ replicate h.candidates 0) where
   abbrev r : Round
-  r = opened_round file o row
+  r = opened_round file change row
 
   no_step_lem : (i : ℕ) → get_or steps₀ i 0 ≡ 0
-  no_step_lem i = ap (λ (l : List ℕ). get_or l i 0) none ∙ get_or_zeros o.head.candidates i
+  no_step_lem i = ap (λ (l : List ℕ). get_or l i 0) none ∙ get_or_zeros h.candidates i
 
-  step_chosen : (i j : ℕ) → i < candidate_count r → get_or asked i 0 ≡ suc j → j < o.head.institutes
+  step_chosen : (i j : ℕ) → i < candidate_count r → get_or asked i 0 ≡ suc j → j < h.institutes
       → get_or steps i 0 ≡ step_for r j (offers_by (offer_to (suc j) asked wanted)) i
   step_chosen i j hi e l =
       let offer : ℕ → ℕ = offer_to (suc j) asked wanted in
@@ -63,7 +64,7 @@ module _ {file : List ℕ} {o : Opened} {row starts : List ℕ} (at : OpenedFile
       ∙ test (takes_part r j offer i) (λ t. rw t) (λ f. rw f (no_step_lem i ∙ sym (no_part_no_step r j offer i f)))
 
   -- no institute of the round has the number that is asked
-  step_outside : (i j : ℕ) → i < candidate_count r → get_or asked i 0 ≡ suc j → o.head.institutes ≤ j
+  step_outside : (i j : ℕ) → i < candidate_count r → get_or asked i 0 ≡ suc j → h.institutes ≤ j
       → get_or steps i 0 ≡ step_for r j (offers_by (offer_to (suc j) asked wanted)) i
   step_outside i j hi e l =
       let nobody : merit_length r j ≡ 0 =
@@ -74,6 +75,6 @@ module _ {file : List ℕ} {o : Opened} {row starts : List ℕ} (at : OpenedFile
 
   pub steps_given : StepsGiven r asked wanted steps
   steps_given = record {
-    many = chosen.many ∙ sized o.head.candidates none ∙ sym (candidates_many at);
-    given = λ i j hi e. less_or j o.head.institutes (step_chosen i j hi e) (step_outside i j hi e);
+    many = chosen.many ∙ sized h.candidates none ∙ sym (candidates_many at);
+    given = λ i j hi e. less_or j h.institutes (step_chosen i j hi e) (step_outside i j hi e);
   }

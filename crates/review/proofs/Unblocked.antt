@@ -11,7 +11,7 @@ use Rattle.round.specs.declared.entry.Category.{Category}
 use Rattle.round.specs.Round.{Round}
 use Rattle.round.specs.Places.{candidate_at, entry_at}
 use Rattle.round.specs.Sound.{Sound}
-use Rattle.lists.proofs.Words.{or_cases}
+use Rattle.std.proofs.lemmas.Bool.{or_cases}
 use Rattle.lists.proofs.Counting.{clash, same_or, or_right}
 use Rattle.lists.proofs.FirstNumber.{first_least}
 use Rattle.offers.specs.Rows.{row_at, rank_in, entry_of}

@@ -1,6 +1,7 @@
 -- The promise of the review (document 02, Points 5 to 7), for every input. That no call reads outside the file or the list, goes wrong or fails to
 -- finish is part of what it is for a function to be proved; the file and the list are only read.
-use Rattle.std.specs.Prelude.{◌≡◌, ℕ, List, length}
+use Rattle.std.specs.Prelude.{◌≡◌, ℕ, List, Result, length}
+use Rattle.reader.specs.declared.refusal.Refusal.{Refusal}
 use Rattle.questions.specs.Reading.{round_of}
 use Rattle.offers.specs.Process.{seats}
 use Rattle.offers.specs.Stable.{Stable}
@@ -9,7 +10,7 @@ use Rattle.review.specs.Outcome.{outcome_of, outcome, list_for, work_after, Revi
 
 -- of a review of a list, with the lent work area: its answer, what stands in the area afterwards, and which lists pass; the last three fields speak
 -- of the outcome, which by `answered` is what the review says
-pub record Promise (file list work : List ℕ) (result : Judgement) (workNow : List ℕ) : Type 0 where
+pub record Promise (file list work : List ℕ) (result : Result Judgement Refusal) (workNow : List ℕ) : Type 0 where
   pub answered : outcome_of result ≡ outcome file list (length work)
   pub work_area : workNow ≡ work_after file list work
   -- a list that passes is stable in the words of demand 3

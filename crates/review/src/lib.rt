@@ -8,12 +8,11 @@ mod steps;
 pub use call::review;
 use round::entry::Entry;
 
-// The answer of a review: the list passes; a candidate has a seat that is not in the row or a step that the institute does not give; an
-// entry above a candidate's seat would be chosen; or the number of the refusal with its byte.
-#[derive(Clone, Copy)]
+// What a review finds: the list passes; a candidate has a seat that is not in the row or a step that the institute does not give; or an
+// entry above a candidate's seat would be chosen.
+#[derive(Clone, Copy, Debug, PartialEq, Eq)]
 pub enum Judgement {
     Passes,
     WrongSeat { candidate: usize },
     BetterEntry { candidate: usize, entry: Entry },
-    Refused { number: usize, offset: usize },
 }

@@ -1,31 +1,19 @@
--- The rules of an institute's steps as one table of numbers, a row for each step: the code of its category, the step that gets its
--- vacancies, its own positions, and those of them that are reserved for types 1 to L.
-use Rattle.std.specs.Prelude.{ℕ, ◌+◌, ◌*◌, ◌≤◌, ◌<◌, List, length, get_or}
-use Rattle.round.specs.Category.{category_of}
-use Rattle.lists.specs.Lists.{tabulate}
+-- The rules of an institute's steps, as the code keeps them.
+use Rattle.std.specs.Prelude.{ℕ, ◌≤◌, List, length, map, take, All}
+use Rattle.round.specs.declared.rule.Rule.{Rule}
 use Rattle.round.specs.Round.{StepRule}
 
--- number s of row k, both from 0
-abbrev pub number_in : ℕ → List ℕ → ℕ → ℕ → ℕ
-number_in types table k s = get_or table (k * (3 + types) + s) 0
+-- what a rule stands for in a round with so many types
+abbrev pub rule_of : ℕ → Rule → StepRule
+rule_of types rule =
+    record { category = rule.category; own = rule.positions; reserved = take types rule.reserved; receiver = rule.receiver }
 
-unfoldable pub rule_in : ℕ → List ℕ → ℕ → StepRule
-rule_in types table k = record {
-  category = category_of (number_in types table k 0);
-  own = number_in types table k 2;
-  reserved = tabulate types (λ t. number_in types table k (3 + t));
-  receiver = number_in types table k 1;
-}
+abbrev pub rules_in : ℕ → List Rule → List StepRule
+rules_in types rules = map (rule_of types) rules
 
--- the rules of so many rows
-abbrev pub rules_in : ℕ → ℕ → List ℕ → List StepRule
-rules_in types steps table = tabulate steps (rule_in types table)
-
--- a table of at most 12 rows: each has a code, a step number and a number of two bytes
-pub record RuleTable (types steps : ℕ) (table : List ℕ) : Type 0 where
+-- at most 12 rules, each with a step number and a number of two bytes
+pub record RuleTable (types : ℕ) (rules : List Rule) : Type 0 where
   pub types_most : types ≤ 8
-  pub steps_most : steps ≤ 12
-  pub long : steps * (3 + types) ≤ length table
-  pub coded : (k : ℕ) → k < steps → number_in types table k 0 < 5
-  pub handed_on : (k : ℕ) → k < steps → number_in types table k 1 ≤ 12
-  pub own_most : (k : ℕ) → k < steps → number_in types table k 2 ≤ 65535
+  pub steps_most : length rules ≤ 12
+  pub handed_on : All (λ rule. rule.receiver ≤ 12) rules
+  pub own_most : All (λ rule. rule.positions ≤ 65535) rules

@@ -10,13 +10,15 @@ use lib.ListN.{length, get_or, replicate}
 use lib.Seq.{ext_get_or}
 use borrow.Author.Tests.{eq-eqb, ne_eqb, lt-ltb}
 use Rattle.round.specs.declared.entry.Category.{Category}
-use Rattle.reader.specs.declared.opened.Opened.{Opened}
+use Rattle.questions.specs.declared.head.Head.{Head as CodeHead}
+use Rattle.reader.specs.declared.change.Change.{Change}
 use Rattle.round.specs.Category.{code_of}
 use Rattle.round.specs.Round.{Round}
 use Rattle.round.specs.Sound.{Sound}
 use Rattle.reader.specs.Opened.{opened_round, OpenedFile}
 use Rattle.lists.specs.Numbers.{holds}
 use Rattle.choice.specs.Account.{type_in, StepAccount}
+use Rattle.choice.specs.declared.step.Numbers.{Numbers}
 use Rattle.choice.specs.Noted.{noted_of}
 use Rattle.lists.proofs.Counting.{same_or, and_true}
 use Rattle.lists.proofs.Tabulate.{get_or_zeros}
@@ -42,29 +44,29 @@ use Rattle.offers.proofs.Wanted.{seat_step}
 use Rattle.sweeps.proofs.Lasts.{holds_only, holds_none, only_some, no_part}
 
 -- the notes have a place for each candidate
-module _ {file : List ℕ} {o : Opened} {row starts : List ℕ} (hand : OpenedFile file o row starts) where
-  pub types_each : {k : ℕ} {holders types : List ℕ} → TypesNoted (opened_round file o row) k holders types → length types ≡ o.head.candidates
+module _ {file : List ℕ} {h : CodeHead} {change : Change} {row starts : List ℕ} (hand : OpenedFile file h change row starts) where
+  pub types_each : {k : ℕ} {holders types : List ℕ} → TypesNoted (opened_round file change row) k holders types → length types ≡ h.candidates
   types_each noted = noted.many ∙ candidates_many hand
 
   -- before any institute has chosen nobody has a type
-  pub none_noted : {holders types : List ℕ} → types ≡ replicate o.head.candidates 0 → TypesNoted (opened_round file o row) 0 holders types
+  pub none_noted : {holders types : List ℕ} → types ≡ replicate h.candidates 0 → TypesNoted (opened_round file change row) 0 holders types
   none_noted e = record {
     many = sized _ e ∙ sym (candidates_many hand);
     noted = λ i j hi l. absurd (omega arith);
-    others = λ i hi none. ap (λ (t : List ℕ). get_or t i 0) e ∙ get_or_zeros o.head.candidates i;
+    others = λ i hi none. ap (λ (t : List ℕ). get_or t i 0) e ∙ get_or_zeros h.candidates i;
   }
 
 -- two arrays hold the list of the round
-module _ {file : List ℕ} {o : Opened} {row starts : List ℕ} (hand : OpenedFile file o row starts)
-    {holders steps : List ℕ} (list : HeldIn (seats (opened_round file o row)) holders steps) where
+module _ {file : List ℕ} {h : CodeHead} {change : Change} {row starts : List ℕ} (hand : OpenedFile file h change row starts)
+    {holders steps : List ℕ} (list : HeldIn (seats (opened_round file change row)) holders steps) where
   abbrev r : Round
-  r = opened_round file o row
+  r = opened_round file change row
 
-  abbrev sound : Sound o.head.types (opened_round file o row)
+  abbrev sound : Sound h.types (opened_round file change row)
   sound = round_sound hand
 
   -- and a third has the sets of its seats' categories
-  module _ {wanted : List ℕ} (wants : SeatsWanted (opened_round file o row) (length steps) holders steps wanted) where
+  module _ {wanted : List ℕ} (wants : SeatsWanted (opened_round file change row) (length steps) holders steps wanted) where
     -- whoever is held by institute j has a set with the category of the step
     module _ (i j : ℕ) (hi : i < candidate_count r) (hj : j < institute_count r) (e : get_or holders i 0 ≡ suc j) where
       stepped : (get_or steps i 0 ≡ step_in r (tried r) j i) × (step_in r (tried r) j i ≢ 0)
@@ -108,13 +110,13 @@ module _ {file : List ℕ} {o : Opened} {row starts : List ℕ} (hand : OpenedFi
     type_same i j hj = ap (λ (account : List StepAccount). type_in account (place_on r j i)) (account_same j hj)
 
     -- and so are its numbers
-    pub numbers_same : {k : ℕ} {types types' noted : List ℕ} → k < o.head.institutes → AccountedAnew (opened_round file o row) k holders wanted types types' noted
-        → noted ≡ noted_of (account_at_end (opened_round file o row) k)
+    pub numbers_same : {k : ℕ} {types types' : List ℕ} {noted : List Numbers} → k < h.institutes → AccountedAnew (opened_round file change row) k holders wanted types types' noted
+        → noted ≡ noted_of (account_at_end (opened_round file change row) k)
     numbers_same {k} l all = all.numbers ∙ ap noted_of (account_same k (omega (arith, institutes_many hand)))
 
     -- one institute more
-    pub one_noted : {k : ℕ} {types types' noted : List ℕ} → k < o.head.institutes → TypesNoted (opened_round file o row) k holders types
-        → AccountedAnew (opened_round file o row) k holders wanted types types' noted → TypesNoted (opened_round file o row) (k + 1) holders types'
+    pub one_noted : {k : ℕ} {types types' : List ℕ} {noted : List Numbers} → k < h.institutes → TypesNoted (opened_round file change row) k holders types
+        → AccountedAnew (opened_round file change row) k holders wanted types types' noted → TypesNoted (opened_round file change row) (k + 1) holders types'
     one_noted {k} l u all = let a = all.typed in record {
       many = a.many ∙ u.many;
       noted = λ i j hi m e.
@@ -129,26 +131,26 @@ module _ {file : List ℕ} {o : Opened} {row starts : List ℕ} (hand : OpenedFi
     }
 
 -- two arrays hold the list of the round
-module _ {file : List ℕ} {o : Opened} {row starts : List ℕ} (hand : OpenedFile file o row starts)
-    {holders steps : List ℕ} (list : HeldIn (seats (opened_round file o row)) holders steps) where
+module _ {file : List ℕ} {h : CodeHead} {change : Change} {row starts : List ℕ} (hand : OpenedFile file h change row starts)
+    {holders steps : List ℕ} (list : HeldIn (seats (opened_round file change row)) holders steps) where
   -- every institute has chosen, and the types are those of the round
-  pub all_noted : {k : ℕ} {types : List ℕ} → k ≡ o.head.institutes → TypesNoted (opened_round file o row) k holders types → types ≡ types_used (opened_round file o row)
+  pub all_noted : {k : ℕ} {types : List ℕ} → k ≡ h.institutes → TypesNoted (opened_round file change row) k holders types → types ≡ types_used (opened_round file change row)
   unfolding seats
   all_noted {k} {types} e u =
-      ext_get_or 0 types (types_used (opened_round file o row)) (u.many ∙ sym (types_length (opened_round file o row)))
+      ext_get_or 0 types (types_used (opened_round file change row)) (u.many ∙ sym (types_length (opened_round file change row)))
       (λ i l. at i (omega (arith, u.many)) (seat_of sound (tried_running sound) i (omega (arith, u.many))))
     where
-      sound : Sound o.head.types (opened_round file o row)
+      sound : Sound h.types (opened_round file change row)
       sound = round_sound hand
 
-      at : (i : ℕ) → i < candidate_count (opened_round file o row) → Seated (opened_round file o row) (tried (opened_round file o row)) i ⊎ Unseated (opened_round file o row) (tried (opened_round file o row)) i
-          → get_or types i 0 ≡ get_or (types_used (opened_round file o row)) i 0
+      at : (i : ℕ) → i < candidate_count (opened_round file change row) → Seated (opened_round file change row) (tried (opened_round file change row)) i ⊎ Unseated (opened_round file change row) (tried (opened_round file change row)) i
+          → get_or types i 0 ≡ get_or (types_used (opened_round file change row)) i 0
       at i hi (inl s) =
-          let seat = list.seat i (omega (arith, list_length (opened_round file o row))) in
+          let seat = list.seat i (omega (arith, list_length (opened_round file change row))) in
           let held : get_or holders i 0 ≡ suc s.institute = sym (ap (λ (x : Seat). x.institute) seat) ∙ ap (λ (x : Seat). x.institute) s.seat in
           u.noted i s.institute hi (omega (arith, institutes_many hand, s.inside)) held
           ∙ sym (types_seated sound s.institute s.inside i hi (ap (λ (x : Seat). x.institute) s.seat))
       at i hi (inr s) =
-          let seat = list.seat i (omega (arith, list_length (opened_round file o row))) in
+          let seat = list.seat i (omega (arith, list_length (opened_round file change row))) in
           let held : get_or holders i 0 ≡ 0 = sym (ap (λ (x : Seat). x.institute) seat) ∙ ap (λ (x : Seat). x.institute) s.seat in
-          u.others i hi (λ j m z. omega arith) ∙ sym (types_unseated (opened_round file o row) i hi s.seat)
+          u.others i hi (λ j m z. omega arith) ∙ sym (types_unseated (opened_round file change row) i hi s.seat)

@@ -1,19 +1,20 @@
 -- The choice among the listed offers is the institute's choice from those offers, and what is put into a table is that choice.
-use Prim.Native.Nat.{ℕ, zero, suc, ◌+◌, ◌-◌, ◌*◌, ◌≤◌, ◌<◌}
+use Prim.Native.Nat.{ℕ, zero, suc, ◌-◌, ◌≤◌, ◌<◌}
 use mathlib.Core.Path.{◌≡◌, refl, sym, ◌∙◌, ap}
 use mathlib.Core.Bool.{Bool, true, false, not}
-use mathlib.Core.List.{List, [], ◌∷◌, map}
+use mathlib.Core.List.{List, [], ◌∷◌, map, ◌++◌}
 use native.Mathlib.Omega.{arith}
 use native.Mathlib.Nat.{zero-div}
 use lib.Dec.{eqb, ltb}
-use lib.ListN.{length, get_or, take, length-map}
+use lib.ListN.{length, get_or, take, length-map, get_or-append}
 use lib.Seq.{length-take-le, get_or-take}
 use borrow.Author.Tests.{ltb-true, lt-ltb, eqb-true, not-false}
 use Rattle.round.specs.declared.entry.Category.{Category}
 use Rattle.round.specs.Category.{code_of}
 use Rattle.lists.specs.Lists.{count_of}
 use Rattle.round.specs.Round.{StepRule, Round}
-use Rattle.reader.specs.declared.opened.Opened.{Opened}
+use Rattle.questions.specs.declared.head.Head.{Head as CodeHead}
+use Rattle.reader.specs.declared.change.Change.{Change}
 use Rattle.reader.specs.Opened.{opened_round, OpenedFile}
 use Rattle.round.specs.Places.{candidate_at, institute_at}
 use Rattle.round.specs.Sound.{SoundInstitute}
@@ -23,6 +24,7 @@ use Rattle.choice.specs.Choice.{choose}
 use Rattle.choice.specs.Account.{account, type_in, types_in}
 use Rattle.placing.specs.Offers.{offered_by}
 use Rattle.lists.specs.Gathers.{Gathers}
+use Rattle.choice.specs.declared.step.Numbers.{Numbers}
 use Rattle.choice.specs.Noted.{noted_of, ClosingsFew, Placed}
 use Rattle.lists.proofs.Counting.{test, clash}
 use Rattle.choice.proofs.Fewer.{SameAmong, choose_gathered, type_gathered, noted_gathered}
@@ -47,8 +49,8 @@ unfolding holds
 none_held t = rw zero-div
 
 -- k offers are listed: who makes each, the marks and the offer
-module _ (r : Round) (j : ℕ) {types : ℕ} (sound : SoundInstitute (candidate_count r) types (institute_at r j)) (offer : ℕ → ℕ) {first : Bool} {who marks offers places : List ℕ} {k : ℕ}
-    (g : Gathered r j offer first (merit_length r j) who marks offers places k) where
+module _ (r : Round) (j : ℕ) {types : ℕ} (sound : SoundInstitute (candidate_count r) types (institute_at r j)) (offer : ℕ → ℕ) {who marks offers places : List ℕ} {k : ℕ}
+    (g : Gathered r j offer (merit_length r j) who marks offers places k) where
   abbrev X : ℕ → Bool
   X = offers_at r j offer
 
@@ -111,10 +113,10 @@ module _ (r : Round) (j : ℕ) {types : ℕ} (sound : SoundInstitute (candidate_
       rw (lt-ltb (place_on r j (get_or who q 0)) L (omega arith), is) x
 
   -- what is chosen among the listed is what is chosen among all
-  module _ {found typed noted : List ℕ} {rules : List StepRule} (fits : k ≤ length marks)
+  module _ {first : Bool} {found typed : List ℕ} {noted : List Numbers} {rules : List StepRule} (fits : k ≤ length marks)
       (chose : (found ≡ choose (take k marks) (offered_by (take k offers)) rules)
       × (first ≡ true → typed ≡ types_in (length (take k marks)) (account (take k marks) (offered_by (take k offers)) rules))
-      × (first ≡ true → noted ≡ noted_of (account (take k marks) (offered_by (take k offers)) rules)))
+      × (noted ≡ noted_of (account (take k marks) (offered_by (take k offers)) rules)))
       (er : rules ≡ (institute_at r j).steps) where
     front_long : length (take k marks) ≡ count_of L X
     front_long = length-take-le k marks fits ∙ g.number
@@ -136,15 +138,16 @@ module _ (r : Round) (j : ℕ) {types : ℕ} (sound : SoundInstitute (candidate_
         (at_places r j (offers_by offer)) (offered_by (take k offers)) offers_same rules p l x)
         ∙ ap (λ (s : List StepRule). type_in (account (marks_on r j) (at_places r j (offers_by offer)) s) p) er
 
-    few_noted : first ≡ true → ClosingsFew k noted
-    few_noted told i l =
-        omega (arith, ap (λ (t : List ℕ). get_or t (i * 5 + 4) 0) (chose.2 told), noted_few (take k marks) (offered_by (take k offers)) rules i l, length-take-le k marks fits)
+    few_noted : ClosingsFew k noted
+    few_noted =
+        rw (chose.2)
+        (λ i d l. omega (arith, noted_few (take k marks) (offered_by (take k offers)) rules i d l, length-take-le k marks fits))
 
-    noted_all : first ≡ true → (table : List ℕ) → Placed places noted table → table ≡ noted_of (account_on r j (offers_by offer))
+    noted_all : (table : List Numbers) → Placed places noted table → table ≡ noted_of (account_on r j (offers_by offer))
     unfolding account_on
-    noted_all told table put =
+    noted_all table put =
         noted_gathered X L (marks_on r j) (take k marks) (length-map (institute_at r j).merit _) front_long marks_front
-        (at_places r j (offers_by offer)) (offered_by (take k offers)) offers_same places (g.places_at told) rules table (rw (chose.2 told) at put)
+        (at_places r j (offers_by offer)) (offered_by (take k offers)) offers_same places g.places_at rules table (rw (chose.2) at put)
         ∙ ap (λ (s : List StepRule). noted_of (account (marks_on r j) (at_places r j (offers_by offer)) s)) er
 
     chosen_listed : {chosen used : List ℕ} → L ≤ 512 → ((q : ℕ) → q < k → get_or chosen q 0 ≡ get_or found q 0) → ((q : ℕ) → q < k → get_or used q 0 ≡ get_or typed q 0)
@@ -166,29 +169,23 @@ module _ (r : Round) (j : ℕ) {types : ℕ} (sound : SoundInstitute (candidate_
     }
 
 -- the offers to an institute are listed, in tables that had room for every candidate
-module _ {file : List ℕ} {o : Opened} {row starts : List ℕ} (hand : OpenedFile file o row starts) {j : ℕ} (inside : j < o.head.institutes) (asked wanted : List ℕ)
-    {first : Bool} {who marks offers places : List ℕ} {k : ℕ}
-    (g : Gathered (opened_round file o row) j (offer_to (suc j) asked wanted) first (merit_length (opened_round file o row) j) who marks offers places k) where
-  pub listed_few : k ≤ 512
-  listed_few =
-      omega (arith, merit_few hand inside, listed_most (opened_round file o row) j (institute_sound hand inside) (offer_to (suc j) asked wanted) g)
-
-  pub front_fits : (l₀ l : List ℕ) → 512 ≤ length l₀ → length l ≡ length l₀ → k ≤ length l
-  front_fits l₀ l room same = omega (arith, listed_few)
-
+module _ {file : List ℕ} {h : CodeHead} {change : Change} {row starts : List ℕ} (hand : OpenedFile file h change row starts) {j : ℕ} (inside : j < h.institutes) (asked wanted : List ℕ)
+    {who marks offers places : List ℕ} {k : ℕ}
+    (g : Gathered (opened_round file change row) j (offer_to (suc j) asked wanted) (merit_length (opened_round file change row) j) who marks offers places k) where
   -- listed and chosen among
-  pub listed_chosen : {chosen used found typed noted : List ℕ} {rules : List StepRule} → k ≤ length marks
+  pub listed_chosen : {first : Bool} {found typed : List ℕ} {noted : List Numbers} {rules : List StepRule} (found_rest typed_rest : List ℕ) → k ≤ length marks
       → (found ≡ choose (take k marks) (offered_by (take k offers)) rules)
       × (first ≡ true → typed ≡ types_in (length (take k marks)) (account (take k marks) (offered_by (take k offers)) rules))
-      × (first ≡ true → noted ≡ noted_of (account (take k marks) (offered_by (take k offers)) rules))
-      → rules ≡ (institute_at (opened_round file o row) j).steps
-      → ((q : ℕ) → q < k → get_or chosen q 0 ≡ get_or found q 0) → ((q : ℕ) → q < k → get_or used q 0 ≡ get_or typed q 0)
-      → ChosenListed (opened_round file o row) j (offer_to (suc j) asked wanted) first who chosen used places noted k
-  listed_chosen fits chose er =
-      chosen_listed (opened_round file o row) j (institute_sound hand inside) (offer_to (suc j) asked wanted) g fits chose er (merit_few hand inside)
+      × (noted ≡ noted_of (account (take k marks) (offered_by (take k offers)) rules))
+      → rules ≡ (institute_at (opened_round file change row) j).steps
+      → length found ≡ k → length typed ≡ k
+      → ChosenListed (opened_round file change row) j (offer_to (suc j) asked wanted) first who (found ++ found_rest) (typed ++ typed_rest) places noted k
+  listed_chosen {found = found} {typed = typed} found_rest typed_rest fits chose er ef et =
+      chosen_listed (opened_round file change row) j (institute_sound hand inside) (offer_to (suc j) asked wanted) g fits chose er (merit_few hand inside)
+      (λ q l. get_or-append found _ 0 q (omega arith)) (λ q l. get_or-append typed _ 0 q (omega arith))
 
 -- what was chosen is put into a table at those who take part
-module _ {r : Round} {j : ℕ} {offer : ℕ → ℕ} {first : Bool} {who chosen used places noted : List ℕ} {k : ℕ} (l : ChosenListed r j offer first who chosen used places noted k) where
+module _ {r : Round} {j : ℕ} {offer : ℕ → ℕ} {first : Bool} {who chosen used places : List ℕ} {noted : List Numbers} {k : ℕ} (l : ChosenListed r j offer first who chosen used places noted k) where
   pub who_apart : {n : ℕ} → candidate_count r ≡ n → k ≤ length who → Apart (take k who) n (length (take k who))
   who_apart e fits =
       rw (length-take-le k who fits)
@@ -198,7 +195,7 @@ module _ {r : Round} {j : ℕ} {offer : ℕ → ℕ} {first : Bool} {who chosen 
       }
 
   put_for : (value : ℕ → ℕ) (values : List ℕ) {before after : List ℕ} → k ≤ length who → ((q : ℕ) → q < k → get_or values q 0 ≡ value (get_or who q 0))
-      → Scattered (take k who) (λ q. get_or (take k values) q 0) (length (take k who)) before after → PutFor r j offer value before after
+      → Scattered (take k who) (λ q. get_or values q 0) (length (take k who)) before after → PutFor r j offer value before after
   put_for value values {before} {after} fits same s = record {
     many = s.many;
     at = λ c hc.
@@ -209,7 +206,6 @@ module _ {r : Round} {j : ℕ} {offer : ℕ → ℕ} {first : Bool} {who chosen 
         rw t
         (ap (λ (b : ℕ). get_or after b 0) (sym (get_or-take k who q 0 m ∙ is))
         ∙ s.at q at
-        ∙ get_or-take k values q 0 m
         ∙ same q m
         ∙ ap value is))
         (λ f.
@@ -220,11 +216,11 @@ module _ {r : Round} {j : ℕ} {offer : ℕ → ℕ} {first : Bool} {who chosen 
         clash (ap (takes_part r j offer) (sym (sym (get_or-take k who q 0 at) ∙ e)) ∙ l.part q at) f)));
   }
 
-  pub steps_put : {before after : List ℕ} → k ≤ length who → Scattered (take k who) (λ q. get_or (take k chosen) q 0) (length (take k who)) before after
+  pub steps_put : {before after : List ℕ} → k ≤ length who → Scattered (take k who) (λ q. get_or chosen q 0) (length (take k who)) before after
       → PutFor r j offer (step_for r j (offers_by offer)) before after
   steps_put fits = put_for _ chosen fits l.chosen_at
 
   pub types_put : {before after : List ℕ} → first ≡ true → k ≤ length who
-      → Scattered (take k who) (λ q. get_or (take k used) q 0) (length (take k who)) before after
+      → Scattered (take k who) (λ q. get_or used q 0) (length (take k who)) before after
       → PutFor r j offer (type_for r j (offers_by offer)) before after
   types_put told fits = put_for _ used fits (l.typed_at_is told)

@@ -38,105 +38,76 @@ module _ (X : ℕ → Bool) where
   pub gathers_front : (n : ℕ) (f : ℕ → ℕ) (l : List ℕ) (k : ℕ) → k ≡ count_of n X → Gathers X n f l → Gathers X n f (take k l)
   gathers_front n f l k e g p m x = get_or-take k l (count_of p X) 0 (omega (arith, number_below X p n m x)) ∙ g p m x
 
-module _ (r : Round) (j : ℕ) (offer : ℕ → ℕ) (placed : Bool) where
+module _ (r : Round) (j : ℕ) (offer : ℕ → ℕ) where
   -- where the listing stands at place p
-  pub record Gathering (who₀ marks₀ offers₀ places₀ who marks offers places : List ℕ) (k p : ℕ) : Type 0 where
-    pub who_sized : length who ≡ length who₀
-    pub marks_sized : length marks ≡ length marks₀
-    pub offers_sized : length offers ≡ length offers₀
-    pub places_sized : length places ≡ length places₀
+  pub record Gathering (who marks offers places : List ℕ) (k p : ℕ) : Type 0 where
+    pub who_sized : length who ≡ 512
+    pub marks_sized : length marks ≡ 512
+    pub offers_sized : length offers ≡ 512
+    pub places_sized : length places ≡ 512
     pub most : k ≤ p
-    pub so_far : Gathered r j offer placed p who marks offers places k
+    pub so_far : Gathered r j offer p who marks offers places k
 
-  module _ {who₀ marks₀ offers₀ places₀ : List ℕ} where
-    pub none_gathered : Gathering who₀ marks₀ offers₀ places₀ who₀ marks₀ offers₀ places₀ 0 0
-    none_gathered = record {
-      who_sized = refl;
-      marks_sized = refl;
-      offers_sized = refl;
-      places_sized = refl;
-      most = omega arith;
-      so_far = record {
-        number = refl;
-        who_at = λ p l. absurd (omega arith);
-        marks_at = λ p l. absurd (omega arith);
-        offers_at_is = λ p l. absurd (omega arith);
-        places_at = λ t p l. absurd (omega arith);
-      };
-    }
+  module _ {who marks offers places : List ℕ} {k p : ℕ} (s : Gathering who marks offers places k p) where
+    -- the candidate at the place has an offer
+    one_gathered : {c m o : ℕ} → p < 512 → c ≡ candidate_on r j p → m ≡ marks_of r (candidate_on r j p) → o ≡ offer (candidate_on r j p) → o ≢ 0
+        → Gathering (set who k c) (set marks k m) (set offers k o) (set places k p) (k + 1) (p + 1)
+    one_gathered {c} {m} {o} l ec em eo d =
+        let X : ℕ → Bool = offers_at r j offer in
+        let g = s.so_far in
+        let x : X p ≡ true = ap not (ne_eqb (offer (candidate_on r j p)) 0 (λ z. d (eo ∙ z))) in
+        record {
+          who_sized = length-set who k c ∙ s.who_sized;
+          marks_sized = length-set marks k m ∙ s.marks_sized;
+          offers_sized = length-set offers k o ∙ s.offers_sized;
+          places_sized = length-set places k p ∙ s.places_sized;
+          most = omega (arith, s.most);
+          so_far = record {
+            number = let e : p + 1 ≡ suc p = omega arith in rw e (omega (arith, g.number, bit_true (X p) x));
+            who_at = gathers_in X _ who k p c g.number (omega (arith, s.who_sized, s.most)) x ec g.who_at;
+            marks_at = gathers_in X _ marks k p m g.number (omega (arith, s.marks_sized, s.most)) x em g.marks_at;
+            offers_at_is = gathers_in X _ offers k p o g.number (omega (arith, s.offers_sized, s.most)) x eo g.offers_at_is;
+            places_at = gathers_in X _ places k p p g.number (omega (arith, s.places_sized, s.most)) x refl g.places_at;
+          };
+        }
 
-    module _ {who marks offers places : List ℕ} {k p : ℕ} (s : Gathering who₀ marks₀ offers₀ places₀ who marks offers places k p) where
-      -- the candidate at the place has an offer
-      one_gathered : {c m o : ℕ} → p < 512 → (512 ≤ length who₀) × (512 ≤ length marks₀) × (512 ≤ length offers₀) × (placed ≡ true → 512 ≤ length places₀)
-          → c ≡ candidate_on r j p → m ≡ marks_of r (candidate_on r j p) → o ≡ offer (candidate_on r j p) → o ≢ 0
-          → {who' marks' offers' places' : List ℕ} {k' : ℕ} → who' ≡ set who k c → marks' ≡ set marks k m → offers' ≡ set offers k o
-          → length places' ≡ length places → (placed ≡ true → places' ≡ set places k p) → k' ≡ k + 1
-          → Gathering who₀ marks₀ offers₀ places₀ who' marks' offers' places' k' (p + 1)
-      one_gathered {c} {m} {o} l room ec em eo d ew ems eos sized eps ek =
-          let X : ℕ → Bool = offers_at r j offer in
-          let g = s.so_far in
-          let x : X p ≡ true = ap not (ne_eqb (offer (candidate_on r j p)) 0 (λ z. d (eo ∙ z))) in
-          rw (ew, ems, eos, ek)
-          record {
-            who_sized = length-set who k c ∙ s.who_sized;
-            marks_sized = length-set marks k m ∙ s.marks_sized;
-            offers_sized = length-set offers k o ∙ s.offers_sized;
-            places_sized = sized ∙ s.places_sized;
-            most = omega (arith, s.most);
-            so_far = record {
-              number = let e : p + 1 ≡ suc p = omega arith in rw e (omega (arith, g.number, bit_true (X p) x));
-              who_at = gathers_in X _ who k p c g.number (omega (arith, room, s.who_sized, s.most)) x ec g.who_at;
-              marks_at = gathers_in X _ marks k p m g.number (omega (arith, room, s.marks_sized, s.most)) x em g.marks_at;
-              offers_at_is = gathers_in X _ offers k p o g.number (omega (arith, room, s.offers_sized, s.most)) x eo g.offers_at_is;
-              places_at = λ t. rw (eps t) (gathers_in X _ places k p p g.number (omega (arith, room.3 t, s.places_sized, s.most)) x refl (g.places_at t));
-            };
-          }
-
-      -- the candidate at the place has none
-      one_passed : {o : ℕ} → o ≡ offer (candidate_on r j p) → o ≡ 0
-          → {who' marks' offers' places' : List ℕ} {k' : ℕ} → who' ≡ who → marks' ≡ marks → offers' ≡ offers → places' ≡ places → k' ≡ k
-          → Gathering who₀ marks₀ offers₀ places₀ who' marks' offers' places' k' (p + 1)
-      one_passed eo z ew ems eos eps ek =
-          let X : ℕ → Bool = offers_at r j offer in
-          let g = s.so_far in
-          let x : X p ≡ false = ap not (eq-eqb (offer (candidate_on r j p)) 0 (sym eo ∙ z)) in
-          rw (ew, ems, eos, eps, ek)
-          record {
-            who_sized = s.who_sized;
-            marks_sized = s.marks_sized;
-            offers_sized = s.offers_sized;
-            places_sized = s.places_sized;
-            most = omega (arith, s.most);
-            so_far = record {
-              number = let e : p + 1 ≡ suc p = omega arith in rw e (omega (arith, g.number, bit_false (X p) x));
-              who_at = gathers_out X _ who p x g.who_at;
-              marks_at = gathers_out X _ marks p x g.marks_at;
-              offers_at_is = gathers_out X _ offers p x g.offers_at_is;
-              places_at = λ t. gathers_out X _ places p x (g.places_at t);
-            };
-          }
+    -- the candidate at the place has none
+    one_passed : {o : ℕ} → o ≡ offer (candidate_on r j p) → o ≡ 0 → Gathering who marks offers places k (p + 1)
+    one_passed eo z =
+        let X : ℕ → Bool = offers_at r j offer in
+        let g = s.so_far in
+        let x : X p ≡ false = ap not (eq-eqb (offer (candidate_on r j p)) 0 (sym eo ∙ z)) in
+        record {
+          who_sized = s.who_sized;
+          marks_sized = s.marks_sized;
+          offers_sized = s.offers_sized;
+          places_sized = s.places_sized;
+          most = omega (arith, s.most);
+          so_far = record {
+            number = let e : p + 1 ≡ suc p = omega arith in rw e (omega (arith, g.number, bit_false (X p) x));
+            who_at = gathers_out X _ who p x g.who_at;
+            marks_at = gathers_out X _ marks p x g.marks_at;
+            offers_at_is = gathers_out X _ offers p x g.offers_at_is;
+            places_at = gathers_out X _ places p x g.places_at;
+          };
+        }
 
 -- at a place of the merit list of an institute, with the number there and the candidate's offer as the code has read them
-module _ (r : Round) (j : ℕ) (asked wanted : List ℕ) (placed : Bool) {who₀ marks₀ offers₀ places₀ who marks offers places : List ℕ} {k p : ℕ}
-    (s : Gathering r j (offer_to (suc j) asked wanted) placed who₀ marks₀ offers₀ places₀ who marks offers places k p) where
+module _ (r : Round) (j : ℕ) (asked wanted : List ℕ) {who marks offers places : List ℕ} {k p : ℕ}
+    (s : Gathering r j (offer_to (suc j) asked wanted) who marks offers places k p) where
   module _ {number offer : ℕ} (reads : number ≡ merit_at (institute_at r j) p) (told : offer ≡ offer_to (j + 1) asked wanted (number - 1)) where
     offer_read : offer ≡ offer_to (suc j) asked wanted (candidate_on r j p)
     offer_read = told ∙ rw (add-one j, reads)
 
-    pub one_listed : length (institute_at r j).merit ≤ 512 → p < length (institute_at r j).merit
-        → (512 ≤ length who₀) × (512 ≤ length marks₀) × (512 ≤ length offers₀) × (placed ≡ true → 512 ≤ length places₀)
-        → {m : ℕ} → m ≡ (candidate_at r (number - 1)).marks → offer ≢ 0
-        → {who' marks' offers' places' : List ℕ} {k' : ℕ} → who' ≡ set who k (number - 1) → marks' ≡ set marks k m → offers' ≡ set offers k offer
-        → length places' ≡ length places → (placed ≡ true → places' ≡ set places k p) → k' ≡ k + 1
-        → Gathering r j (offer_to (suc j) asked wanted) placed who₀ marks₀ offers₀ places₀ who' marks' offers' places' k' (p + 1)
+    pub one_listed : length (institute_at r j).merit ≤ 512 → p < length (institute_at r j).merit → {m : ℕ} → m ≡ (candidate_at r (number - 1)).marks → offer ≢ 0
+        → Gathering r j (offer_to (suc j) asked wanted) (set who k (number - 1)) (set marks k m) (set offers k offer) (set places k p) (k + 1) (p + 1)
     unfolding marks_of
-    one_listed few inside rooms em =
-        one_gathered r j _ placed s (omega arith) rooms (ap (λ x. x - 1) reads)
+    one_listed few inside em =
+        one_gathered r j _ s (omega arith) (ap (λ x. x - 1) reads)
         (em ∙ ap (λ n. (candidate_at r (n - 1)).marks) reads) offer_read
 
-    pub one_left : offer ≡ 0 → {who' marks' offers' places' : List ℕ} {k' : ℕ} → who' ≡ who → marks' ≡ marks → offers' ≡ offers → places' ≡ places → k' ≡ k
-        → Gathering r j (offer_to (suc j) asked wanted) placed who₀ marks₀ offers₀ places₀ who' marks' offers' places' k' (p + 1)
-    one_left = one_passed r j _ placed s offer_read
+    pub one_left : offer ≡ 0 → Gathering r j (offer_to (suc j) asked wanted) who marks offers places k (p + 1)
+    one_left = one_passed r j _ s offer_read
 
-  pub all_listed : (n : ℕ) → p ≡ n → Gathered r j (offer_to (suc j) asked wanted) placed n who marks offers places k
+  pub all_listed : (n : ℕ) → p ≡ n → Gathered r j (offer_to (suc j) asked wanted) n who marks offers places k
   all_listed n e = rw e at s.so_far

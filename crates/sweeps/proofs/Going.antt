@@ -14,7 +14,8 @@ use Rattle.lists.specs.Lists.{bit, count_of, list_sum, sum_of}
 use Rattle.round.specs.Round.{Round}
 use Rattle.round.specs.Sound.{Sound}
 use Rattle.reader.specs.Opened.{opened_round, OpenedFile}
-use Rattle.reader.specs.declared.opened.Opened.{Opened}
+use Rattle.questions.specs.declared.head.Head.{Head as CodeHead}
+use Rattle.reader.specs.declared.change.Change.{Change}
 use Rattle.lists.proofs.Words.{and_fst, and_snd, length_tabulate, tabulate_at}
 use Rattle.lists.proofs.Counting.{test, same_or, and_true, clash, count_ext, sum_of_le}
 use Rattle.lists.proofs.Tabulate.{get_or_zeros}
@@ -103,19 +104,19 @@ none_going r n e many =
       counted = sym (sum_zeros (candidate_count r));
     })
 
-module _ {file : List ℕ} {h : Opened} {row starts : List ℕ} (hand : OpenedFile file h row starts) where
+module _ {file : List ℕ} {h : CodeHead} {change : Change} {row starts : List ℕ} (hand : OpenedFile file h change row starts) where
   abbrev r : Round
-  r = opened_round file h row
+  r = opened_round file change row
 
-  abbrev sound : Sound h.head.types (opened_round file h row)
+  abbrev sound : Sound h.types (opened_round file change row)
   sound = round_sound hand
 
-  pub going_start : {state asked wanted steps : List ℕ} → state ≡ replicate h.head.candidates 0 → asked ≡ replicate h.head.candidates 0
-      → steps ≡ replicate h.head.candidates 0 → length wanted ≡ h.head.candidates → Going (opened_round file h row) state asked wanted steps 0
-  going_start et ea es many = rw (et, ea, es) (none_going (opened_round file h row) h.head.candidates (candidates_many hand) many)
+  pub going_start : {state asked wanted steps : List ℕ} → state ≡ replicate h.candidates 0 → asked ≡ replicate h.candidates 0
+      → steps ≡ replicate h.candidates 0 → length wanted ≡ h.candidates → Going (opened_round file change row) state asked wanted steps 0
+  going_start et ea es many = rw (et, ea, es) (none_going (opened_round file change row) h.candidates (candidates_many hand) many)
 
   -- the entries are few
-  entries_few : entry_total (opened_round file h row) ≤ 8192
+  entries_few : entry_total (opened_round file change row) ≤ 8192
   entries_few =
       omega (
         arith,
@@ -125,7 +126,7 @@ module _ {file : List ℕ} {h : Opened} {row starts : List ℕ} (hand : OpenedFi
         sum_of_le (candidate_count r) (λ p. (rows_of r p).len) (λ p. 16) (λ p m. omega (arith, row_length r p, (sound.candidate p m).row_sound.row_short)),
       )
 
-  module _ {state asked wanted steps : List ℕ} {made : ℕ} (g : Going (opened_round file h row) state asked wanted steps made) where
+  module _ {state asked wanted steps : List ℕ} {made : ℕ} (g : Going (opened_round file change row) state asked wanted steps made) where
     seat_is : (i : ℕ) → i < candidate_count r → get_or (seats_after r state) i no_seat ≡ seat_by asked steps i
     seat_is i hi = go (g.known i hi)
       where
@@ -141,7 +142,7 @@ module _ {file : List ℕ} {h : Opened} {row starts : List ℕ} (hand : OpenedFi
     may_same i hi = ap (λ b. b && ltb (get_or state i 0) (length (row_at r i))) (sym (ap is_none (seat_is i hi) ∙ none_by asked steps i))
 
     -- everybody who may has offered
-    module _ {state' asked' wanted' fresh : List ℕ} {more : ℕ} (o : OffersMade (opened_round file h row) steps state asked wanted state' asked' wanted' fresh more) where
+    module _ {state' asked' wanted' fresh : List ℕ} {more : ℕ} (o : OffersMade (opened_round file change row) steps state asked wanted state' asked' wanted' fresh more) where
       sweep : (k : ℕ) → k ≤ candidate_count r → (now : List ℕ) × Swept r state k now
       sweep zero l = (state, none_swept g.running)
       sweep (suc k) l =
@@ -168,13 +169,13 @@ module _ {file : List ℕ} {h : Opened} {row starts : List ℕ} (hand : OpenedFi
       more_is = o.number ∙ count_ext (candidate_count r) _ _ may_same
 
       -- no more offers than entries
-      going_few : made + more ≤ entry_total (opened_round file h row)
+      going_few : made + more ≤ entry_total (opened_round file change row)
       going_few = omega (arith, g.counted, more_is, swept_sum sound g.running swept, state_most swept.run)
 
       pub going_small : made + more < 2 ^ 64
       going_small = omega (arith, going_few, entries_few)
 
-      pub going_less : more ≢ 0 → entry_total (opened_round file h row) - (made + more) < entry_total (opened_round file h row) - made
+      pub going_less : more ≢ 0 → entry_total (opened_round file change row) - (made + more) < entry_total (opened_round file change row) - made
       going_less d = omega (arith, going_few)
 
       module _ (i : ℕ) (hi : i < candidate_count r) where
@@ -274,8 +275,8 @@ module _ {file : List ℕ} {h : Opened} {row starts : List ℕ} (hand : OpenedFi
           rw f (step_before i hi j hj e ∙ step_absent r j (made_to r state j) i off ∙ sym (step_absent r j (made_to r state' j) i off))))
 
       -- and each institute that got an offer has chosen
-      pub going_next : {steps' : List ℕ} → ChosenAll (opened_round file h row) asked' wanted' fresh h.head.institutes steps steps'
-          → Going (opened_round file h row) state' asked' wanted' steps' (made + more)
+      pub going_next : {steps' : List ℕ} → ChosenAll (opened_round file change row) asked' wanted' fresh h.institutes steps steps'
+          → Going (opened_round file change row) state' asked' wanted' steps' (made + more)
       going_next {steps'} c' = let c : ChosenAll r asked' wanted' fresh (institute_count r) steps steps' = rw (institutes_many hand) c' in record {
         running = swept.run;
         asked_many = asks_many o;
@@ -299,11 +300,11 @@ module _ {file : List ℕ} {h : Opened} {row starts : List ℕ} (hand : OpenedFi
         last : state ≡ tried r
         last = ended_tried sound g.running ended
 
-        pub going_count : made ≡ offers_made (opened_round file h row)
+        pub going_count : made ≡ offers_made (opened_round file change row)
         unfolding offers_made
         going_count = g.counted ∙ ap list_sum last
 
-        pub going_held : HeldIn (seats (opened_round file h row)) (settled asked' steps) steps
+        pub going_held : HeldIn (seats (opened_round file change row)) (settled asked' steps) steps
         unfolding seats
         going_held = record {
           holders_many = length_tabulate 0 (length steps) _ ∙ g.steps_many ∙ sym (list_length r);

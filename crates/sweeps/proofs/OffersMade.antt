@@ -1,6 +1,6 @@
 -- Offers of one candidate after the other: what the tables hold on the way and after the last.
 use Prim.Native.Nat.{ℕ, ◌+◌, ◌-◌, ◌^◌, ◌≤◌, ◌<◌}
-use mathlib.Core.Path.{◌≡◌, refl, sym, ◌∙◌, ap}
+use mathlib.Core.Path.{◌≡◌, sym, ◌∙◌, ap}
 use mathlib.Core.Bool.{Bool, true, false, ◌&&◌}
 use mathlib.Core.Logic.{◌≢◌}
 use mathlib.Core.List.{List}
@@ -10,34 +10,26 @@ use native.Mathlib.Numerals.{add-one}
 use lib.Dec.{eqb, ltb}
 use lib.ListN.{length, get_or, set, length-set, get_or-eq_default}
 use lib.Seq.{get_or-set_same, get_or-set_other}
-use borrow.Author.Tests.{ltb-true, eq-eqb, ne_eqb}
+use borrow.Author.Tests.{ltb-true}
 use Rattle.round.specs.declared.entry.Entry.{Entry}
 use Rattle.round.specs.Category.{code_of}
 use Rattle.lists.specs.Lists.{tabulate, count_of}
 use Rattle.round.specs.Round.{Round}
 use Rattle.round.specs.Places.{candidate_at, entry_at}
-use Rattle.reader.specs.declared.opened.Opened.{Opened}
+use Rattle.questions.specs.declared.head.Head.{Head as CodeHead}
+use Rattle.reader.specs.declared.change.Change.{Change}
 use Rattle.round.specs.Sound.{SoundRow}
 use Rattle.reader.specs.Opened.{opened_round, OpenedFile}
 use Rattle.lists.proofs.Words.{and_snd}
 use Rattle.lists.proofs.Counting.{clash}
 use Rattle.lists.proofs.Counts.{count_more}
-use Rattle.lists.proofs.Written.{Written, begin, write, keep, tabulated}
+use Rattle.lists.proofs.Written.{Written, write, keep, tabulated}
 use Rattle.offers.specs.Rows.{row_at}
 use Rattle.offers.specs.Process.{candidate_count}
 use Rattle.offers.proofs.Known.{candidates_many, round_sound}
 use Rattle.sweeps.specs.Sweeps.{may_try, next_entry, OfferMade, tried_next, asked_next, wanted_next, OffersMade}
 
--- who has a step may not try; who has none may, while an entry is untried
-pub try_held : (r : Round) (tried steps : List ℕ) (i : ℕ) → get_or steps i 0 ≢ 0 → false ≡ may_try r tried steps i
-unfolding may_try
-try_held r tried steps i d = rw (ne_eqb (get_or steps i 0) 0 d)
-
-pub try_free : (r : Round) (tried steps : List ℕ) (i : ℕ) {k n : ℕ} → get_or steps i 0 ≡ 0 → k ≡ get_or tried i 0 → n ≡ length (row_at r i)
-    → ltb k n ≡ may_try r tried steps i
-unfolding may_try
-try_free r tried steps i e ek en = rw (eq-eqb (get_or steps i 0) 0 e, ek, en)
-
+-- whoever may try has an untried entry
 pub try_more : (r : Round) (tried steps : List ℕ) (i : ℕ) {may : Bool} → may ≡ may_try r tried steps i → may ≡ true → get_or tried i 0 < length (row_at r i)
 unfolding may_try
 try_more r tried steps i told t = ltb-true _ _ (and_snd (eqb (get_or steps i 0) 0) _ (sym told ∙ t))
@@ -53,19 +45,19 @@ set_keeps l a b d z = elim (ℕ_discrete b a) [
 ]
 
 -- the best untried entry of a candidate, as the code has read it
-module _ {file : List ℕ} {o : Opened} {row starts : List ℕ} (hand : OpenedFile file o row starts) {i : ℕ} (below : i < o.head.candidates) (tried : List ℕ) (more : get_or tried i 0 < length (row_at (opened_round file o row) i)) where
-  entries : SoundRow (length (opened_round file o row).institutes) (candidate_at (opened_round file o row) i).category (row_at (opened_round file o row) i)
+module _ {file : List ℕ} {h : CodeHead} {change : Change} {row starts : List ℕ} (hand : OpenedFile file h change row starts) {i : ℕ} (below : i < h.candidates) (tried : List ℕ) (more : get_or tried i 0 < length (row_at (opened_round file change row) i)) where
+  entries : SoundRow (length (opened_round file change row).institutes) (candidate_at (opened_round file change row) i).category (row_at (opened_round file change row) i)
   entries = ((round_sound hand).candidate i (omega (arith, candidates_many hand))).row_sound
 
   pub tried_few : get_or tried i 0 + 1 < 256
   tried_few = omega (arith, entries.row_short)
 
-  next_few : (1 ≤ (next_entry (opened_round file o row) tried i).institute) × ((next_entry (opened_round file o row) tried i).institute ≤ 1000)
+  next_few : (1 ≤ (next_entry (opened_round file change row) tried i).institute) × ((next_entry (opened_round file change row) tried i).institute ≤ 1000)
   next_few = (entries.entry_from (get_or tried i 0) more, omega (arith, entries.entry_to (get_or tried i 0) more, (round_sound hand).institutes_most_is))
 
-  module _ {k : ℕ} {entry : Entry} (at : k ≡ get_or tried i 0) (reads : entry ≡ entry_at (candidate_at (opened_round file o row) i) k) where
-    entry_is : entry ≡ next_entry (opened_round file o row) tried i
-    entry_is = reads ∙ ap (λ k. entry_at (candidate_at (opened_round file o row) i) k) at
+  module _ {k : ℕ} {entry : Entry} (at : k ≡ get_or tried i 0) (reads : entry ≡ entry_at (candidate_at (opened_round file change row) i) k) where
+    entry_is : entry ≡ next_entry (opened_round file change row) tried i
+    entry_is = reads ∙ ap (λ k. entry_at (candidate_at (opened_round file change row) i) k) at
 
     entry_few : (1 ≤ entry.institute) × (entry.institute ≤ 1000)
     entry_few = rw entry_is next_few
@@ -80,7 +72,7 @@ module _ {file : List ℕ} {o : Opened} {row starts : List ℕ} (hand : OpenedFi
     entry_inside fresh e = omega (arith, entry_few)
 
     pub offer_made : {asked wanted fresh : List ℕ} {categories : ℕ} → length fresh ≡ 1000 → categories ≡ 2 ^ code_of entry.category
-        → OfferMade (opened_round file o row) i tried asked wanted fresh
+        → OfferMade (opened_round file change row) i tried asked wanted fresh
         (set tried i (get_or tried i 0 + 1)) (set asked i entry.institute) (set wanted i categories) (set fresh (entry.institute - 1) 1)
     offer_made {asked} {wanted} {fresh} many ec = record {
       tried_one = ap (λ x. set tried i x) (add-one (get_or tried i 0));
@@ -102,17 +94,6 @@ module _ (r : Round) (steps tried₀ asked₀ wanted₀ : List ℕ) where
     pub fresh_many : length fresh ≡ 1000
     pub fresh_new : (i : ℕ) → i < k → may_try r tried₀ steps i ≡ true → get_or fresh ((next_entry r tried₀ i).institute - 1) 0 ≢ 0
 
-  pub none_offered : {fresh : List ℕ} → length fresh ≡ 1000 → Offering tried₀ asked₀ wanted₀ fresh 0 0
-  none_offered many = record {
-    tried_to = begin tried₀ _;
-    asked_to = begin asked₀ _;
-    wanted_to = begin wanted₀ _;
-    number = refl;
-    few = omega arith;
-    fresh_many = many;
-    fresh_new = λ i l. absurd (omega arith);
-  }
-
   module _ {tried asked wanted fresh : List ℕ} {k made : ℕ} (s : Offering tried asked wanted fresh k made) where
     -- candidate k may by the tables now where it might before
     may_still : may_try r tried steps k ≡ may_try r tried₀ steps k
@@ -121,16 +102,14 @@ module _ (r : Round) (steps tried₀ asked₀ wanted₀ : List ℕ) where
 
     module _ {may : Bool} (told : may ≡ may_try r tried steps k) where
       -- candidate k may not offer
-      pub one_passed : may ≡ false → {tried' asked' wanted' fresh' : List ℕ} {made' : ℕ} → tried' ≡ tried → asked' ≡ asked → wanted' ≡ wanted → fresh' ≡ fresh
-          → made' ≡ made → Offering tried' asked' wanted' fresh' (k + 1) made'
-      one_passed not-may et ea ew ef em =
+      pub one_passed : may ≡ false → Offering tried asked wanted fresh (k + 1) made
+      one_passed not-may =
           let f : may_try r tried₀ steps k ≡ false = sym may_still ∙ sym told ∙ not-may in
-          rw (et, ea, ew, ef)
           record {
             tried_to = keep tried₀ tried _ k s.tried_to (rw f);
             asked_to = keep asked₀ asked _ k s.asked_to (rw f);
             wanted_to = keep wanted₀ wanted _ k s.wanted_to (rw f);
-            number = em ∙ (let e : made ≡ made + 0 = omega arith in e) ∙ count_more (may_try r tried₀ steps) k made 0 s.number (rw f);
+            number = (let e : made ≡ made + 0 = omega arith in e) ∙ count_more (may_try r tried₀ steps) k made 0 s.number (rw f);
             few = omega (arith, s.few);
             fresh_many = s.fresh_many;
             fresh_new = λ i l t. elim (ℕ_discrete i k) [
@@ -141,18 +120,17 @@ module _ (r : Round) (steps tried₀ asked₀ wanted₀ : List ℕ) where
 
       -- candidate k offers
       pub one_offered : may ≡ true → k < length tried₀ → k < length asked₀ → k < length wanted₀
-          → {tried₁ asked₁ wanted₁ fresh₁ tried' asked' wanted' fresh' : List ℕ} {made' : ℕ} → OfferMade r k tried asked wanted fresh tried₁ asked₁ wanted₁ fresh₁
-          → tried' ≡ tried₁ → asked' ≡ asked₁ → wanted' ≡ wanted₁ → fresh' ≡ fresh₁ → made' ≡ made + 1
-          → Offering tried' asked' wanted' fresh' (k + 1) made'
-      one_offered yes₀ lt la lw o et ea ew ef em =
+          → {tried' asked' wanted' fresh' : List ℕ} → OfferMade r k tried asked wanted fresh tried' asked' wanted' fresh'
+          → Offering tried' asked' wanted' fresh' (k + 1) (made + 1)
+      one_offered yes₀ lt la lw o =
           let t : may_try r tried₀ steps k ≡ true = sym may_still ∙ sym told ∙ yes₀ in
           let had : get_or tried k 0 ≡ get_or tried₀ k 0 = s.tried_to.above k (omega arith) in
-          rw (et ∙ o.tried_one, ea ∙ o.asked_one, ew ∙ o.wanted_one, ef, had)
+          rw (o.tried_one, o.asked_one, o.wanted_one, had)
           record {
             tried_to = write tried₀ tried _ k _ lt s.tried_to (rw t);
             asked_to = write asked₀ asked _ k _ la s.asked_to (rw t);
             wanted_to = write wanted₀ wanted _ k _ lw s.wanted_to (rw t);
-            number = em ∙ count_more (may_try r tried₀ steps) k made 1 s.number (rw t);
+            number = count_more (may_try r tried₀ steps) k made 1 s.number (rw t);
             few = omega (arith, s.few);
             fresh_many = o.fresh_many ∙ s.fresh_many;
             fresh_new = λ i l m. elim (ℕ_discrete i k) [

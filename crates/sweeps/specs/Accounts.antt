@@ -2,13 +2,14 @@
 -- ever made to it.
 use Rattle.std.specs.Prelude.{ℕ, suc, ◌<◌, ◌≡◌, ◌≢◌, List, length, get_or}
 use Rattle.round.specs.Round.{Round}
+use Rattle.choice.specs.declared.step.Numbers.{Numbers}
 use Rattle.choice.specs.Noted.{noted_of}
 use Rattle.offers.specs.Offers.{account_on, type_for}
 use Rattle.offers.specs.Process.{candidate_count, made_to, tried}
 use Rattle.sweeps.specs.Sweeps.{offer_to, offers_by, PutFor}
 
 -- institute j has chosen from its seats: the types that it used are noted, and the numbers of its account
-pub record AccountedAnew (r : Round) (j : ℕ) (holders wanted types₀ types noted : List ℕ) : Type 0 where
+pub record AccountedAnew (r : Round) (j : ℕ) (holders wanted types₀ types : List ℕ) (noted : List Numbers) : Type 0 where
   pub typed : PutFor r j (offer_to (suc j) holders wanted) (type_for r j (offers_by (offer_to (suc j) holders wanted))) types₀ types
   pub numbers : noted ≡ noted_of (account_on r j (offers_by (offer_to (suc j) holders wanted)))
 

@@ -1,146 +1,74 @@
-// One institute chooses from the offers that two tables have: for each candidate the institute that is asked, and a set of categories. In
-// the second half of a sweep each institute that got an offer does, from the entries tried last that name it.
-ghost use Rattle.std.specs.Prelude.{◌≡◌, true, suc, ◌≤◌, ◌<◌, length, replicate};
-ghost use Rattle.round.specs.Round.{Round};
-ghost use Rattle.reader.specs.Opened.{OpenedFile, opened_round};
+// One institute chooses from the offers to it. In the second half of a sweep each institute that got an offer does, from the entries tried last that
+// name it.
+ghost use Rattle.std.specs.Prelude.{◌≡◌, true, suc, ◌<◌, length};
+ghost use Rattle.reader.specs.AtHand.{round_at};
 ghost use Rattle.sweeps.specs.Sweeps.{offer_to, ChosenListed, ChosenAnew, ChosenAll};
 
-use crate::gather::gather;
+use crate::gather::{Listing, Offers};
 use crate::scatter::scatter;
-use crate::table::nobody;
 use choice::choose;
-use lists::clearing::zeros;
-use reader::access::institute_body;
-use reader::opened::Opened;
-use reader::rules::{rule_table, rules_of};
+use choice::step::Numbers;
+use reader::rules::rules_of;
+use round::rule::Rule;
 
-// Institute j, from 0, chooses: lists who takes part, the step of each and, with `first`, the type used, the place and the numbers of its account, and
-// returns their number.
-pub fn choose_listed(
-    file: &[u8],
-    o: Opened,
-    row: &[u8],
-    starts: &[u32],
-    j: usize,
-    asked: &[u16],
-    wanted: &[u8],
-    first: bool,
-    who: &mut [u16],
-    chosen: &mut [u8],
-    used: &mut [u8],
-    places: &mut [u16],
-    noted: &mut [usize],
-) -> usize
-    ghost r: { Round }
-    requires row_value { opened_round file.now o row.now ≡ r }
-    requires opened_file { OpenedFile file.now o row.now starts.now }
-    requires j_lt_institutes { j < o.head.institutes }
-    requires asked_len { (length asked.now ≡ o.head.candidates) × (length wanted.now ≡ o.head.candidates) }
-    requires in_bounds { (512 ≤ length who.old) × (512 ≤ length chosen.old) × (512 ≤ length used.old) }
-    requires in_bounds_2 { (first ≡ true → 512 ≤ length places.old) × (first ≡ true → noted.old ≡ replicate 60 0) }
-    ensures { ChosenListed r j (offer_to (suc j) asked.now wanted.now)
-        first who.new chosen.new used.new places.new noted.new result }
-{
-    let mut marks = zeros();
-    let mut offers = zeros();
-    let mut rules = rule_table();
-    let k = gather(
-        file,
-        o,
-        row,
-        starts,
-        j,
-        asked,
-        wanted,
-        first,
-        who,
-        &mut marks,
-        &mut offers,
-        places,
-    );
-    let h = o.head;
-    let body = institute_body(file, o, row, starts, j);
-    let count = rules_of(body, h, &mut rules);
-    choose(
-        &rules,
-        h.types,
-        count,
-        &marks[..k],
-        &offers[..k],
-        first,
-        &mut chosen[..k],
-        &mut used[..k],
-        noted,
-    );
-    k
-}
+impl Offers<'_> {
+    // Institute j, from 0, chooses: lists who takes part, with the step of each; with `first`, a flag as in `choose`, the types used are noted;
+    // returns the numbers of its account. The tables are lent, since tables that are returned are copied; inlined, since the compiler then knows
+    // that the tables are apart.
+    #[inline(always)]
+    pub fn choose_listed(
+        &self,
+        j: usize,
+        first: bool,
+        listing: &mut Listing,
+        chosen: &mut [u8; 512],
+        used: &mut [u8; 512],
+    ) -> [Numbers; 12]
+        requires j_lt_institutes { j < self.now.o.head.institutes }
+        ensures who_len { length listing.new.who ≡ 512 }
+        ensures chosen { ChosenListed (round_at self.now.o) j (offer_to (suc j) self.now.asked.now self.now.wanted.now)
+            first listing.new.who chosen.new used.new listing.new.places result listing.new.count }
+    {
+        let mut table = [Rule::NONE; 12];
+        self.gather(j, listing);
+        let count = listing.count;
+        let rules = rules_of(&self.o.steps(j), &mut table);
+        choose(
+            rules,
+            self.o.head.types,
+            &listing.marks[..count],
+            &listing.sets[..count],
+            first,
+            &mut chosen[..count],
+            &mut used[..count],
+        )
+    }
 
-// Institute j, from 0, chooses, and the steps of those who take part are put into the table.
-pub fn choose_anew(
-    file: &[u8],
-    o: Opened,
-    row: &[u8],
-    starts: &[u32],
-    j: usize,
-    asked: &[u16],
-    wanted: &[u8],
-    steps: &mut [u8],
-)
-    ghost r: { Round }
-    requires row_value { opened_round file.now o row.now ≡ r }
-    requires opened_file { OpenedFile file.now o row.now starts.now }
-    requires j_lt_institutes { j < o.head.institutes }
-    requires asked_len { (length asked.now ≡ o.head.candidates) × (length wanted.now ≡ o.head.candidates) × (length steps.old ≡ o.head.candidates) }
-    ensures { ChosenAnew r j asked.now wanted.now
-        steps.old steps.new }
-{
-    let mut who = nobody();
-    let mut chosen = zeros();
-    let mut used = zeros();
-    let mut places = [0u16; 1];
-    let mut noted = [0usize; 1];
-    let k = choose_listed(
-        file,
-        o,
-        row,
-        starts,
-        j,
-        asked,
-        wanted,
-        false,
-        &mut who,
-        &mut chosen,
-        &mut used,
-        &mut places,
-        &mut noted,
-    );
-    scatter(&who[..k], &chosen[..k], steps);
-}
+    // Institute j, from 0, chooses, and the steps of those who take part are put into the table.
+    pub fn choose_anew(&self, j: usize, steps: &mut [u8])
+        requires j_lt_institutes { j < self.now.o.head.institutes }
+        requires steps_len { length steps.old ≡ self.now.o.head.candidates }
+        ensures { ChosenAnew (round_at self.now.o) j self.now.asked.now self.now.wanted.now
+            steps.old steps.new }
+    {
+        let mut listing = Listing::NONE;
+        let mut chosen = [0; 512];
+        let mut used = [0; 512];
+        self.choose_listed(j, false, &mut listing, &mut chosen, &mut used);
+        scatter(&listing.who[..listing.count], &chosen, steps);
+    }
 
-// Each institute that got an offer chooses, and is then one that got none.
-pub fn choose_all(
-    file: &[u8],
-    o: Opened,
-    row: &[u8],
-    starts: &[u32],
-    asked: &[u16],
-    wanted: &[u8],
-    fresh: &mut [u8],
-    steps: &mut [u8],
-)
-    ghost r: { Round }
-    requires row_value { opened_round file.now o row.now ≡ r }
-    requires opened_file { OpenedFile file.now o row.now starts.now }
-    requires asked_len { (length asked.now ≡ o.head.candidates) × (length wanted.now ≡ o.head.candidates) × (length steps.old ≡ o.head.candidates)
-        × (length fresh.old ≡ 1000) }
-    ensures { ChosenAll r asked.now wanted.now fresh.old o.head.institutes
-        steps.old steps.new
-        × (length fresh.new ≡ 1000) }
-{
-    for j in 0..o.head.institutes {
-        if fresh[j] != 0 {
-            fresh[j] = 0;
-            choose_anew(file, o, row, starts, j, asked, wanted, steps);
+    // Each institute that got an offer, and so has a mark other than 0, chooses.
+    // Marks are numbers, since `ChosenAll` speaks of every number.
+    pub fn choose_all(&self, fresh: &[u8], steps: &mut [u8])
+        requires steps_len { (length steps.old ≡ self.now.o.head.candidates) × (length fresh.now ≡ 1000) }
+        ensures { ChosenAll (round_at self.now.o) self.now.asked.now self.now.wanted.now fresh.now self.now.o.head.institutes
+            steps.old steps.new }
+    {
+        for (j, &mark) in fresh[..self.o.head.institutes].iter().enumerate() {
+            if mark != 0 {
+                self.choose_anew(j, steps);
+            }
         }
     }
 }

@@ -7,4 +7,3 @@ pub mod gather;
 pub mod offering;
 pub mod process;
 pub mod scatter;
-pub mod table;

@@ -4,51 +4,47 @@
 // offers in number order (`Rounds/Sweeps`), and offers in any order end alike (`Rounds/AnyOrder`); the entries tried last give the same
 // steps as all offers (`Rounds/Last`).
 ghost use Rattle.std.specs.Prelude.{◌≡◌, length, replicate};
-ghost use Rattle.round.specs.Round.{Round};
-ghost use Rattle.reader.specs.Opened.{OpenedFile, opened_round};
+ghost use Rattle.reader.specs.AtHand.{round_at};
 ghost use Rattle.offers.specs.Process.{offers_made, seats};
 ghost use Rattle.offers.specs.Held.{HeldIn};
 ghost use Rattle.sweeps.specs.Sweeps.{settled};
 
-use crate::choosing::choose_all;
+use crate::gather::Offers;
 use crate::offering::offer_all;
-use crate::table::none_fresh;
-use lists::clearing::zeros;
 use reader::opened::Opened;
 
-// Sweeps from the state in which nothing is tried and nobody held, to the end; returns how many offers were made.
+// Sweeps from the state in which nothing is tried and nobody held, until nobody offers, which no number of turns tells beforehand; returns how many offers
+// were made.
 fn sweep_all(
-    file: &[u8],
-    o: Opened,
-    row: &[u8],
-    starts: &[u32],
+    o: &Opened<'_>,
     tried: &mut [u8],
     asked: &mut [u16],
     wanted: &mut [u8],
     steps: &mut [u8],
 ) -> usize
-    ghost r: { Round }
-    requires row_value { opened_round file.now o row.now ≡ r }
-    requires opened_file { OpenedFile file.now o row.now starts.now }
-    requires tried_value { (tried.old ≡ replicate o.head.candidates 0)
-        × (asked.old ≡ replicate o.head.candidates 0)
-        × (steps.old ≡ replicate o.head.candidates 0)
-        × (length wanted.old ≡ o.head.candidates) }
-    ensures { (result ≡ offers_made r)
-        × (length asked.new ≡ o.head.candidates)
-        × (length steps.new ≡ o.head.candidates)
-        × HeldIn (seats r) (settled asked.new steps.new) steps.new }
+    requires tried_value { (tried.old ≡ replicate o.now.head.candidates 0)
+        × (asked.old ≡ replicate o.now.head.candidates 0)
+        × (steps.old ≡ replicate o.now.head.candidates 0)
+        × (length wanted.old ≡ o.now.head.candidates) }
+    ensures { (result ≡ offers_made (round_at o.now))
+        × (length asked.new ≡ o.now.head.candidates)
+        × (length steps.new ≡ o.now.head.candidates)
+        × HeldIn (seats (round_at o.now)) (settled asked.new steps.new) steps.new }
 {
-    let mut fresh = none_fresh();
-    let mut count: usize = 0;
+    let mut count = 0;
+    let mut fresh = [0; 1000];
     loop {
-        let made = offer_all(
-            file, o, row, starts, steps, tried, asked, wanted, &mut fresh,
-        );
+        fresh[..o.head.institutes].fill(0);
+        let made = offer_all(o, steps, tried, asked, wanted, &mut fresh);
         if made == 0 {
             return count;
         }
-        choose_all(file, o, row, starts, asked, wanted, &mut fresh, steps);
+        let offers = Offers {
+            o: *o,
+            asked,
+            wanted,
+        };
+        offers.choose_all(&fresh, steps);
         count += made;
     }
 }
@@ -58,43 +54,24 @@ fn drop_holders(steps: &[u8], holders: &mut [u16])
     requires { length holders.old ≡ length steps.now }
     ensures { holders.new ≡ settled holders.old steps.now }
 {
-    for i in 0..steps.len() {
-        if steps[i] == 0 {
+    for (i, &step) in steps.iter().enumerate() {
+        if step == 0 {
             holders[i] = 0;
         }
     }
 }
 
 // The offers of the process of an accepted file, from tables of zeros: returns their number, at most that of the entries, and leaves the holder
-// and the step of each candidate, 0 and 0 for none.
-pub fn run_offers(
-    file: &[u8],
-    o: Opened,
-    row: &[u8],
-    starts: &[u32],
-    holders: &mut [u16],
-    steps: &mut [u8],
-) -> usize
-    ghost r: { Round }
-    requires row_value { opened_round file.now o row.now ≡ r }
-    requires opened_file { OpenedFile file.now o row.now starts.now }
-    requires holders_value { (holders.old ≡ replicate o.head.candidates 0) × (steps.old ≡ replicate o.head.candidates 0) }
-    ensures { (result ≡ offers_made r)
-        × HeldIn (seats r) holders.new steps.new }
+// and the step of each candidate, 0 and 0 for none as `HeldIn` has it.
+pub fn run_offers(o: &Opened<'_>, holders: &mut [u16], steps: &mut [u8]) -> usize
+    requires holders_value { (holders.old ≡ replicate o.now.head.candidates 0) × (steps.old ≡ replicate o.now.head.candidates 0) }
+    ensures { (result ≡ offers_made (round_at o.now))
+        × HeldIn (seats (round_at o.now)) holders.new steps.new }
 {
     let n = o.head.candidates;
-    let mut tried = zeros();
-    let mut wanted = zeros();
-    let count = sweep_all(
-        file,
-        o,
-        row,
-        starts,
-        &mut tried[..n],
-        holders,
-        &mut wanted[..n],
-        steps,
-    );
+    let mut tried = [0; 512];
+    let mut wanted = [0; 512];
+    let count = sweep_all(o, &mut tried[..n], holders, &mut wanted[..n], steps);
     drop_holders(steps, holders);
     count
 }

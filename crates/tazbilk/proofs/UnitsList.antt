@@ -15,6 +15,8 @@ use Rattle.offers.specs.Process.{candidate_count}
 use Rattle.offers.specs.Areas.{seat_in, seats_in}
 use Rattle.allotment.specs.Outcome.{answer_after}
 use Rattle.allotment.proofs.Files.Accepting.{seats_after_lem}
+use Rattle.std.specs.Prelude.{Result}
+use Rattle.reader.specs.declared.refusal.Refusal.{Refusal}
 use Rattle.review.specs.declared.Judgement.{Judgement}
 use Rattle.review.specs.Outcome.{list_for}
 use Rattle.review.specs.Promise.{Promise}
@@ -36,7 +38,7 @@ front_seats Wide n area =
       step = get_or-take (4 * n) area (4 * i + 2) 0 (omega arith) k + 256 * get_or-take (4 * n) area (suc (4 * i + 2)) 0 (omega arith) k;
     })
 
-pub units_list_lem : {file list work : List ℕ} {told : Judgement} {workNow : List ℕ} → Promise file list work told workNow → UnitsListPasses file list work
+pub units_list_lem : {file list work : List ℕ} {told : Result Judgement Refusal} {workNow : List ℕ} → Promise file list work told workNow → UnitsListPasses file list work
 unfolding UnitsListPasses
 units_list_lem {file} promise answer workThen accepted is reviewed =
     promise.own_list reviewed

@@ -4,7 +4,7 @@ ghost use Rattle.tazbilk.specs.Allotting.{numbers_of, Exported};
 
 use allotment::{Answer, allot};
 
-// The three numbers of an answer.
+// The three numbers of an answer, since C has them in the place of the enum.
 fn allot_numbers(told: Answer) -> [u64; 3]
     ensures { result ≡ numbers_of told }
 {

@@ -1,30 +1,21 @@
 // The review of a list of seats as numbers, as C and Rust call it.
 ghost use Rattle.std.specs.Prelude.{◌≡◌};
-ghost use Rattle.round.specs.Category.{code_of};
 ghost use Rattle.tazbilk.specs.Reviewing.{numbers_of, Exported};
 
+use reader::refusal::Refusal;
 use review::{Judgement, review};
-use round::entry::{Category, code_of};
 
-// The code of a category as one of the numbers.
-fn code_number(category: Category) -> u64
-    ensures { result ≡ code_of category }
-{
-    code_of(category) as u64
-}
-
-// The four numbers of what a review says.
-fn review_numbers(told: Judgement) -> [u64; 4]
+// The four numbers of what a review says, since C has them in the place of the enum.
+fn review_numbers(told: Result<Judgement, Refusal>) -> [u64; 4]
     ensures { result ≡ numbers_of told }
 {
     match told {
-        Judgement::Passes => [0, 0, 0, 0],
-        Judgement::Refused { number, offset } => [1, number as u64, offset as u64, 0],
-        Judgement::WrongSeat { candidate } => [2, candidate as u64, 0, 0],
-        Judgement::BetterEntry { candidate, entry } => {
-            let institute = entry.institute;
-            let category = entry.category;
-            [3, candidate as u64, institute as u64, code_number(category)]
+        Ok(Judgement::Passes) => [0, 0, 0, 0],
+        Err(Refusal { question, offset }) => [1, question.number() as u64, offset as u64, 0],
+        Ok(Judgement::WrongSeat { candidate }) => [2, candidate as u64, 0, 0],
+        Ok(Judgement::BetterEntry { candidate, entry }) => {
+            let category = u64::from(u8::from(entry.category));
+            [3, candidate as u64, entry.institute as u64, category]
         }
     }
 }

@@ -9,6 +9,7 @@ use borrow.Author.Tests.{lt-ltb, le-ltb}
 use lib.ListN.{length, length-append}
 use Rattle.io.specs.Digits.{last_digits, hex_digit_ascii, IsDigitCount}
 use Rattle.text.specs.Decimal.{digit, decimal_by, decimal}
+use Rattle.text.specs.declared.Text.{Text}
 use Rattle.text.specs.Put.{Fits, Put}
 
 glyph_digit : (d : ℕ) → d < 10 → hex_digit_ascii d ≡ 48 + d
@@ -66,8 +67,8 @@ module _ {n k : ℕ} {spelled : List ℕ} (few : IsDigitCount 10 1 n k) (same : 
   spelled_out : spelled ≡ decimal n
   spelled_out = same ∙ fewest_digits k few
 
-  pub digits_fit : {area : List ℕ} {at : ℕ} → Fits area at (decimal n) → Fits area at spelled
+  pub digits_fit : {area : Text} → Fits area (decimal n) → Fits area spelled
   digits_fit fits = rw spelled_out fits
 
-  pub digits_put : {area now : List ℕ} {at behind : ℕ} → Put area at spelled now behind → Put area at (decimal n) now behind
+  pub digits_put : {area now : Text} → Put area spelled now → Put area (decimal n) now
   digits_put p = rw spelled_out at p

@@ -1,59 +1,40 @@
 -- Texts put one behind the other.
-use Prim.Native.Nat.{ℕ, zero, suc, ◌+◌, ◌≤◌, ◌<◌}
-use mathlib.Core.Path.{◌≡◌, refl, sym, ap, ◌∙◌}
-use mathlib.Core.List.{List, [], ◌∷◌, ◌++◌}
+use Prim.Native.Nat.{ℕ, zero, suc, ◌+◌, ◌-◌, ◌≤◌, ◌<◌}
+use mathlib.Core.Path.{◌≡◌, sym, ap, ◌∙◌}
+use mathlib.Core.List.{List, ◌++◌, append_assoc}
 use native.Mathlib.Omega.{arith}
 use native.Mathlib.Numerals.{add-one}
-use lib.ListN.{length, get_or, set, take, drop, length-append}
-use lib.Seq.{sets, length-sets, take-suc, take_all, length-take-le, take-append_seam, drop-append_seam}
+use borrow.Rule.Slice.PartMut.{put_mid}
+use lib.ListN.{length, take, drop, length-append}
+use lib.Seq.{sets, sets-eq, drop-drop, length-take-le, take-append_seam, drop-append_seam}
 use Rattle.lists.specs.Lists.{tabulate, tabulate_from, joined}
 use Rattle.lists.proofs.Joined.{sets_append, sets_front, joined_more}
-use Rattle.text.specs.Decimal.{decimal, next_number, named}
+use Rattle.text.specs.declared.Text.{Text}
 use Rattle.text.specs.Put.{Fits, Put, Front}
 
--- nothing
-pub put_none : (area : List ℕ) (at : ℕ) → Put area at [] area at
-put_none area at = record { stored = refl; next = omega arith; kept = refl }
-
 -- one text and then another are both together
-pub put_then : {area mid now xs ys : List ℕ} {at next behind : ℕ} → Put area at xs mid next → Put mid next ys now behind → Put area at (xs ++ ys) now behind
-put_then {area} {xs = xs} {ys = ys} {at = at} p q = record {
-  stored = q.stored ∙ rw (p.stored, p.next) (sets_append area at xs ys);
+pub put_then : {area mid now : Text} {xs ys : List ℕ} → Put area xs mid → Put mid ys now → Put area (xs ++ ys) now
+put_then {area} {xs = xs} {ys = ys} p q = record {
+  stored = q.stored ∙ rw (p.stored, p.next) (sets_append area.area.now area.len xs ys);
   next = omega (arith, length-append xs ys);
   kept = q.kept ∙ p.kept;
+  same = q.same ∙ p.same;
 }
 
 -- where there is room for two, there is for the first
-pub fits_first : {area : List ℕ} {at : ℕ} (xs ys : List ℕ) → Fits area at (xs ++ ys) → Fits area at xs
+pub fits_first : {area : Text} (xs ys : List ℕ) → Fits area (xs ++ ys) → Fits area xs
 fits_first xs ys l = record { room = omega (arith, length-append xs ys) }
 
 -- and behind it for the second
-pub fits_then : {area mid xs : List ℕ} {at next : ℕ} (ys : List ℕ) → Fits area at (xs ++ ys) → Put area at xs mid next → Fits mid next ys
+pub fits_then : {area mid : Text} {xs : List ℕ} (ys : List ℕ) → Fits area (xs ++ ys) → Put area xs mid → Fits mid ys
 fits_then {xs = xs} ys l p = record { room = omega (arith, length-append xs ys) }
 
--- a number behind a space
-pub next_put : {area mid now : List ℕ} {at next behind : ℕ} (n : ℕ) → Put area at (32 ∷ []) mid next → Put mid next (decimal n) now behind
-    → Put area at (next_number n) now behind
-next_put n p q = put_then p q
-
--- a number behind a word
-pub named_put : {area word mid now : List ℕ} {at next behind : ℕ} (n : ℕ) → Put area at word mid next → Put mid next (next_number n) now behind
-    → Put area at (named word n) now behind
-named_put n p q = put_then p q
-
--- one byte more of some
-pub byte_more : (area bytes : List ℕ) (at i : ℕ) {now : List ℕ} → i < length bytes → now ≡ sets area at (take i bytes)
-    → set now (at + i) (get_or bytes i 0) ≡ sets area at (take (i + 1) bytes)
-byte_more area bytes at i {now} l e =
-    let long : length (take i bytes) ≡ i = length-take-le i bytes (omega arith) in
-    rw (add-one, take-suc bytes i 0, ← sets_append, long, e)
-
--- all of them
-pub bytes_put : {area bytes now : List ℕ} {at i behind : ℕ} → length bytes ≤ i → now ≡ sets area at (take i bytes) → behind ≡ at + length bytes
-    → Put area at bytes now behind
-bytes_put {area} {bytes} {now} {at} {i} l e f =
-    let stored : now ≡ sets area at bytes = e ∙ rw (take_all i bytes) in
-    record { stored = stored; next = f; kept = ap length stored ∙ length-sets area at bytes }
+-- some bytes in the place of as many
+pub bytes_stored : (area bytes part : List ℕ) (at end : ℕ) → part ≡ bytes → end ≡ at + length bytes → end ≤ length area
+    → put_mid at (end - at) area part ≡ sets area at bytes
+bytes_stored area bytes part at end same e l =
+    let many : end - at ≡ length bytes = omega arith in
+    rw (same, many, drop-drop (length bytes) at area, ← append_assoc (take at area) bytes (drop (at + length bytes) area)) (sym (sets-eq bytes area at (omega arith)))
 
 -- more pieces are no shorter
 more_longer : (f : ℕ → List ℕ) (s i n : ℕ) → i ≤ n → length (joined (tabulate_from s i f)) ≤ length (joined (tabulate_from s n f))
@@ -68,30 +49,30 @@ more_longer f s (suc i) (suc n) l =
     )
 
 -- a text of pieces, where there is room for n of them: there is for the next one
-pub fits_piece : {area mid : List ℕ} {at next : ℕ} (f : ℕ → List ℕ) (n i : ℕ) → i < n → Fits area at (joined (tabulate n f))
-    → Put area at (joined (tabulate i f)) mid next → Fits mid next (f i)
+pub fits_piece : {area mid : Text} (f : ℕ → List ℕ) (n i : ℕ) → i < n → Fits area (joined (tabulate n f))
+    → Put area (joined (tabulate i f)) mid → Fits mid (f i)
 fits_piece f n i l room p = record {
   room = omega (arith, ap length (joined_more i f), length-append (joined (tabulate i f)) (f i), more_longer f 0 (suc i) n (omega arith));
 }
 
 -- one piece more
-pub put_piece : {area mid now : List ℕ} {at next behind : ℕ} (f : ℕ → List ℕ) (i : ℕ) → Put area at (joined (tabulate i f)) mid next
-    → Put mid next (f i) now behind → Put area at (joined (tabulate (i + 1) f)) now behind
+pub put_piece : {area mid now : Text} (f : ℕ → List ℕ) (i : ℕ) → Put area (joined (tabulate i f)) mid
+    → Put mid (f i) now → Put area (joined (tabulate (i + 1) f)) now
 put_piece f i p q = rw (add-one, joined_more) (put_then p q)
 
 -- all of them
-pub put_all : {area now : List ℕ} {at behind i n : ℕ} (f : ℕ → List ℕ) → Put area at (joined (tabulate i f)) now behind → i ≤ n → n ≤ i
-    → Put area at (joined (tabulate n f)) now behind
+pub put_all : {area now : Text} {i n : ℕ} (f : ℕ → List ℕ) → Put area (joined (tabulate i f)) now → i ≤ n → n ≤ i
+    → Put area (joined (tabulate n f)) now
 put_all {i = i} {n = n} f p l m = let e : n ≡ i = omega arith in rw e p
 
--- a text that is put in from the front, where there is room, stands there
-pub front_put : {area text now : List ℕ} {size : ℕ} → Fits area 0 text → Put area 0 text now size → Front area text now size
-front_put {area} {text} {now} {size} fits p =
-    let long : size ≡ length text = omega arith in
-    let whole : now ≡ text ++ drop (length text) area = p.stored ∙ sets_front area text (omega arith) in
-    let inside : size ≤ length now = omega arith in
+-- a text that is put in from the front stands there
+pub front_put : {area now : Text} {text : List ℕ} → area.len ≡ 0 → Put area text now → Front area.area.now text now.area.now now.len
+front_put {area} {now} {text} empty p =
+    let long : now.len ≡ length text = omega arith in
+    let front : sets area.area.now area.len text ≡ sets area.area.now 0 text = ap (λ n. sets area.area.now n text) empty in
+    let whole : now.area.now ≡ text ++ drop (length text) area.area.now = p.stored ∙ front ∙ sets_front area.area.now text (omega (arith, now.inside)) in
     record {
-      counts = (inside, sym (length-take-le size now inside));
-      shows = rw (long, whole) (take-append_seam text (drop (length text) area));
-      rest = rw (long, whole) (drop-append_seam text (drop (length text) area));
+      counts = (now.inside, sym (length-take-le now.len now.area.now now.inside));
+      shows = rw (long, whole) (take-append_seam text (drop (length text) area.area.now));
+      rest = rw (long, whole) (drop-append_seam text (drop (length text) area.area.now));
     }

@@ -1,53 +1,73 @@
-// Text put into an area from a place on, byte for byte; each function answers the place behind what it put.
+// Text put into an area of bytes, from its front on.
 #![tactic(auto)]
 
+ghost use Rattle.std.specs.Prelude.{◌≡◌, ◌≤◌, length};
 ghost use Rattle.text.specs.Ascii.{ascii};
 ghost use Rattle.text.specs.Decimal.{decimal, next_number, named};
-ghost use Rattle.text.specs.Put.{Fits, Put};
 
-// Some bytes, as they stand.
-pub fn put_bytes(area: &mut [u8], at: usize, bytes: &[u8]) -> usize
-    requires { Fits area.old at bytes.now }
-    ensures { Put area.old at bytes.now area.new result }
-{
-    for i in 0..bytes.len() {
-        area[at + i] = bytes[i];
+// An area, and how many bytes have been put in. Not a `fmt::Write`, since a text that fits is put in without fail.
+#[derive(Drop)]
+pub struct Text<'a> {
+    pub area: &'a mut [u8],
+    pub len: usize,
+    pub ghost inside: { len ≤ length area.now },
+}
+
+impl<'a> Text<'a> {
+    ghost use Rattle.text.specs.Put.{Fits, Put};
+
+    // Nothing yet.
+    pub fn new(area: &'a mut [u8]) -> Text<'a>
+        ensures area { result.area.now ≡ area.old }
+        ensures len { result.len ≡ 0 }
+        ensures same_reference { result.area.ghost_name ≡ area.entry.ghost_name }
+    {
+        Text { area, len: 0 }
     }
-    at + bytes.len()
-}
 
-// A number in base ten.
-pub fn put_number(area: &mut [u8], at: usize, n: usize) -> usize
-    requires { Fits area.old at (decimal n) }
-    ensures { Put area.old at (decimal n) area.new result }
-{
-    let mut digits = [0u8; 20];
-    let count = io::decimal(n as u64, &mut digits);
-    put_bytes(area, at, &digits[..count])
-}
+    // Some bytes, as they stand.
+    pub fn put(&mut self, bytes: &[u8])
+        requires { Fits self.old bytes.now }
+        ensures { Put self.old bytes.now self.new }
+    {
+        let end = self.len + bytes.len();
+        self.area[self.len..end].copy_from_slice(bytes);
+        self.len = end;
+    }
 
-// A number behind a space.
-pub fn put_next(area: &mut [u8], at: usize, n: usize) -> usize
-    requires { Fits area.old at (next_number n) }
-    ensures { Put area.old at (next_number n) area.new result }
-{
-    let behind = put_bytes(area, at, b" ");
-    put_number(area, behind, n)
-}
+    // A number in base ten.
+    pub fn put_number(&mut self, n: usize)
+        requires { Fits self.old (decimal n) }
+        ensures { Put self.old (decimal n) self.new }
+    {
+        let mut digits = [0u8; 20];
+        let count = io::decimal(n as u64, &mut digits);
+        self.put(&digits[..count]);
+    }
 
-// A word, then a number behind a space.
-pub fn put_named(area: &mut [u8], at: usize, word: &[u8], n: usize) -> usize
-    requires { Fits area.old at (named word.now n) }
-    ensures { Put area.old at (named word.now n) area.new result }
-{
-    let told = put_bytes(area, at, word);
-    put_next(area, told, n)
-}
+    // A number behind a space.
+    pub fn put_next(&mut self, n: usize)
+        requires { Fits self.old (next_number n) }
+        ensures { Put self.old (next_number n) self.new }
+    {
+        self.put(b" ");
+        self.put_number(n);
+    }
 
-// The end of a line.
-pub fn put_line_end(area: &mut [u8], at: usize) -> usize
-    requires { Fits area.old at (ascii "\n") }
-    ensures { Put area.old at (ascii "\n") area.new result }
-{
-    put_bytes(area, at, b"\n")
+    // A word, then a number behind a space.
+    pub fn put_named(&mut self, word: &[u8], n: usize)
+        requires { Fits self.old (named word.now n) }
+        ensures { Put self.old (named word.now n) self.new }
+    {
+        self.put(word);
+        self.put_next(n);
+    }
+
+    // The end of a line.
+    pub fn put_line_end(&mut self)
+        requires { Fits self.old (ascii "\n") }
+        ensures { Put self.old (ascii "\n") self.new }
+    {
+        self.put(b"\n");
+    }
 }

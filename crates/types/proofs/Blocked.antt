@@ -1,6 +1,6 @@
 -- A type that cannot be had: where a set of types is full, and whoever has one of them holds these only, nobody more can have one, whoever is
 -- moved. The marks of one type alone.
-use Prim.Native.Nat.{ℕ, zero, suc, ◌*◌, ◌%◌, ◌^◌, ◌≤◌, ◌<◌}
+use Prim.Native.Nat.{ℕ, zero, suc, ◌^◌, ◌≤◌, ◌<◌}
 use mathlib.Core.Path.{◌≡◌, refl, ap, ◌∙◌}
 use mathlib.Core.Bool.{Bool, true, false, cond}
 use mathlib.Core.List.{List}
@@ -15,10 +15,6 @@ use Rattle.matching.specs.Use.{Placing}
 use Rattle.placing.specs.Left.{at_type}
 use Rattle.lists.proofs.Counting.{bit_same, bit_other, count_less, sum_of_zero, sum_of_ext, sum_of_le, sum_of_at}
 use Rattle.matching.proofs.Tight.{cond_less, cond_zero, cond_le}
-
--- the marks of type t alone, as a byte
-pub one_type : (t : ℕ) → t < 8 → 1 * 2 ^ t % 256 ≡ 2 ^ t
-one_type t l = eqb-true _ _ (all_at 8 (λ t. eqb (1 * 2 ^ t % 256) (2 ^ t)) refl t l)
 
 -- they have type t ..
 pub has_own : (t : ℕ) → t < 8 → holds (2 ^ t) t ≡ true

@@ -1,13 +1,13 @@
 -- How one place after the other gets the smallest type, down to the first placing.
 use Prim.Native.Nat.{ℕ, suc, ◌+◌, ◌-◌, ◌≤◌, ◌<◌}
 use mathlib.Core.Path.{◌≡◌, refl, sym, ap, subst, ◌∙◌}
-use mathlib.Core.Bool.{Bool, true, false}
+use mathlib.Core.Bool.{true}
 use mathlib.Core.List.{List, ◌++◌}
 use mathlib.Core.Logic.{◌≢◌}
 use native.Mathlib.Omega.{arith}
 use native.Mathlib.Numerals.{add-one}
 use lib.Dec.{eqb, ltb}
-use lib.ListN.{length, get_or, set, take, drop, replicate, length-drop, get_or-eq_default}
+use lib.ListN.{length, get_or, set, take, drop, length-drop, get_or-eq_default}
 use lib.Seq.{set-get_or, get_or-drop, drop-drop, take_at, ext_get_or, length-take-le, length_front}
 use borrow.Author.Tests.{lt-ltb, ltb-true}
 use Rattle.lists.specs.Lists.{count_of}
@@ -15,8 +15,7 @@ use Rattle.matching.specs.Use.{one_less, Placing}
 use Rattle.placing.specs.Left.{Left}
 use Rattle.matching.specs.FirstPlacing.{SameTyped}
 use Rattle.types.specs.Lowered.{Sealed, Lowered, LoweringFrom, LoweredFrom, PlacedFirst}
-use Rattle.lists.proofs.Counting.{clash, less_or, same_or, bit_same, bit_other, count_ext}
-use Rattle.lists.proofs.Tabulate.{get_or_zeros}
+use Rattle.lists.proofs.Counting.{less_or, same_or, bit_same, bit_other, count_ext}
 use Rattle.matching.proofs.Use.{one_less_length, one_less_same, one_less_other, one_less_le}
 use Rattle.matching.proofs.FirstPlacing.{types_first}
 use Rattle.types.proofs.LowerFrom.{from_at, from_front, from_count, positions_from, left_from, sealed_rest, front_position}
@@ -44,25 +43,6 @@ pub record LoweredTo (reserved marks before room left held placed exhausted : Li
 
 -- how the way down begins, goes on and ends
 module _ (reserved marks before : List ℕ) where
-  -- the first place is reached
-  pub unlowered : {room left held : List ℕ} → Placing reserved marks before → Left reserved left before → room ≡ reserved → held ≡ marks
-      → LoweredTo reserved marks before room left held before (replicate 8 0) 0
-  unlowered placing positions whole copied = rw (whole, copied) record {
-    placing = placing;
-    positions = positions;
-    same = λ q. refl;
-    as_many = refl;
-    counted = λ t l. omega arith;
-    types = refl;
-    sealed = record {
-      full = λ t v. absurd (omega (arith, get_or_zeros 8 t));
-      closed = λ q t u v. absurd (omega (arith, get_or_zeros 8 t));
-    };
-    each = refl;
-    rest = λ q l. refl;
-    smallest = λ others h alike i l. absurd (omega arith);
-  }
-
   -- all places are passed
   pub lowered_all : {room left held placed exhausted : List ℕ} {p : ℕ} → LoweredTo reserved marks before room left held placed exhausted p → p ≡ length marks
       → PlacedFirst true reserved marks before placed
@@ -97,9 +77,8 @@ module _ (reserved marks before : List ℕ) where
     }
 
     -- place p is passed where it has no type ..
-    pub lowered_none : {r f h l e : List ℕ} → get_or placed p 0 ≡ 0 → r ≡ room → f ≡ left → h ≡ held → l ≡ placed → e ≡ exhausted
-        → LoweredTo reserved marks before r f h l e (p + 1)
-    lowered_none untyped er ef eh el ee = rw (er, ef, eh, el, ee) record {
+    pub lowered_none : get_or placed p 0 ≡ 0 → LoweredTo reserved marks before room left held placed exhausted (p + 1)
+    lowered_none untyped = record {
       placing = k.placing;
       positions = k.positions;
       same = k.same;
@@ -197,9 +176,8 @@ module _ (reserved marks before : List ℕ) where
           (λ other.
           omega (arith, one_less_other room u t other, k.counted t l, count_above t, bit_other (get_or after p 0) (suc t) (λ e. other (omega arith))))
 
-      pub lowered_one : {r f h l e : List ℕ} → length held' ≡ length held → r ≡ room' → f ≡ left' → h ≡ held' → l ≡ after → e ≡ exhausted'
-          → length exhausted' ≡ length exhausted → LoweredTo reserved marks before r f h l e (p + 1)
-      lowered_one sized er ef eh el ee kept = rw (er, ef, eh, el, ee, w.less) record {
+      pub lowered_one : length held' ≡ length held → length exhausted' ≡ length exhausted → LoweredTo reserved marks before room' left' held' after exhausted' (p + 1)
+      lowered_one sized kept = rw w.less record {
         placing = new_placing;
         positions = new_positions;
         same = new_same;
@@ -214,10 +192,3 @@ module _ (reserved marks before : List ℕ) where
             sym (from_at held' p q (omega arith)) ∙ w.lowered.others (q - p) (omega arith) ∙ from_at held p q (omega arith) ∙ k.rest q (omega arith);
         smallest = new_smallest;
       }
-
--- the first placing is asked for, or it is not
-pub placed_first : {reserved marks before after : List ℕ} {first : Bool} → first ≡ true → PlacedFirst true reserved marks before after → PlacedFirst first reserved marks before after
-placed_first {reserved} {marks} {before} {after} asked done = rw asked done
-
-pub as_placed_first : (reserved marks before : List ℕ) {first : Bool} → first ≡ false → PlacedFirst first reserved marks before before
-as_placed_first reserved marks before other = record { same = λ q. refl; types = λ asked. clash asked other }

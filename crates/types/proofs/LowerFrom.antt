@@ -5,7 +5,7 @@ use mathlib.Core.List.{List, [], ◌∷◌, ◌++◌, append-nil}
 use mathlib.Core.Logic.{◌≢◌}
 use native.Mathlib.Omega.{arith}
 use lib.Dec.{eqb}
-use lib.ListN.{length, get_or, set, take, drop, replicate, length-set, length-drop, drop_of_length-le, get_or-append, get_or-eq_default}
+use lib.ListN.{length, get_or, set, take, drop, length-set, length-drop, drop_of_length-le, get_or-append, get_or-eq_default}
 use lib.Seq.{get_or-set_same, get_or-set_other, get_or-take, get_or-drop, drop_at, take_all, length-take-le}
 use borrow.Author.Tests.{eqb-true, eq-eqb}
 use Rattle.lists.specs.Lists.{count_of}
@@ -14,19 +14,7 @@ use Rattle.placing.specs.Left.{at_type, Left}
 use Rattle.types.specs.Lowered.{Sealed, Reopened, Lowering, Lowered, LoweringFrom, LoweredFrom}
 use Rattle.lists.proofs.Counting.{less_or, bit_same, bit_other, count_first, count_ext, count_le}
 use Rattle.lists.proofs.Counts.{count_within, count_from}
-use Rattle.lists.proofs.Tabulate.{get_or_zeros}
 use Rattle.types.proofs.LowerFront.{typed_too}
-
--- nothing is exhausted any more where u was
-pub forgotten : {before after : List ℕ} (u : ℕ) → length before ≡ 8 → after ≡ replicate 8 0 ++ drop 8 before → Reopened before after u
-forgotten {before} u types e =
-    rw (e, drop_of_length-le before {i = 8} (omega arith), append-nil {A = ℕ} (replicate 8 0)) record {
-      freed = get_or_zeros 8 u;
-      others = λ t l. absurd (omega (arith, get_or_zeros 8 t));
-    }
-
-pub as_exhausted : (before : List ℕ) (u : ℕ) → get_or before u 0 ≡ 0 → Reopened before before u
-as_exhausted before u e = record { freed = e; others = λ t l. refl }
 
 -- the places from p on
 module _ (l : List ℕ) (p : ℕ) where

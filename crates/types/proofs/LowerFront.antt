@@ -43,10 +43,6 @@ pub record Lowers (room marks₀ placed₀ left marks placed exhausted : List �
   pub sealed : Sealed room marks₀ placed₀ exhausted
   pub tried : (u : ℕ) → u < t → holds (get_or marks₀ 0 0) u ≡ true → 0 < get_or exhausted u 0
 
--- no marks are lost
-pub as_many_marks : {room marks₀ placed₀ left marks placed exhausted : List ℕ} {t : ℕ} → Lowers room marks₀ placed₀ left marks placed exhausted t → length marks ≡ length marks₀
-as_many_marks {marks₀ = marks₀} {marks = marks} k = sym (length-set marks 0 0) ∙ ap length (k.as_marked 0) ∙ length-set marks₀ 0 0
-
 -- the front place before it leaves its type
 module _ {room left₀ marks₀ before exhausted₀ : List ℕ} (s : Lowering room left₀ marks₀ before exhausted₀) where
   -- the type that it has, from 0
@@ -155,9 +151,9 @@ module _ {room left₀ marks₀ before exhausted₀ vacant : List ℕ} (s : Lowe
     as_marked_again m = set-set marks 0 o m ∙ k.as_marked m
 
     -- it cannot be had
-    pub missed : {left' exhausted' after f m l v : List ℕ} {r : Bool} → Attempted room left left' (set marks 0 o) exhausted exhausted' placed after 0 r → r ≡ false → length exhausted' ≡ length exhausted
-        → f ≡ left' → m ≡ set marks 0 o → l ≡ after → v ≡ exhausted' → Lowers room marks₀ vacant f m l v (t + 1)
-    missed {left'} {exhausted'} {after} attempted none_left kept ef em el ev = rw (ef, em, el, ev) record {
+    pub missed : {left' exhausted' after : List ℕ} {r : Bool} → Attempted room left left' (set marks 0 o) exhausted exhausted' placed after 0 r → r ≡ false → length exhausted' ≡ length exhausted
+        → Lowers room marks₀ vacant left' (set marks 0 o) after exhausted' (t + 1)
+    missed {left'} {exhausted'} {after} attempted none_left kept = record {
       as_marked = as_marked_again;
       as_placed = stuck.same;
       positions = rw stuck.same at attempted.positions;
@@ -232,10 +228,10 @@ module _ {room left₀ marks₀ before exhausted₀ vacant : List ℕ} (s : Lowe
                 eq-eqb _ _ (get_or-set_other after 0 q 0 0 off ∙ moved.stays q u off v (eqb-true _ _ e))))
 
   -- the front place does not hold type t, or it is exhausted
-  pub skipped : {left marks placed exhausted f m l v : List ℕ} {t : ℕ} {b : Bool} → Lowers room marks₀ vacant left marks placed exhausted t
-      → b ≡ (holds (get_or marks₀ 0 0) t && eqb (get_or exhausted t 0) 0) → b ≡ false → f ≡ left → m ≡ marks → l ≡ placed → v ≡ exhausted
-      → Lowers room marks₀ vacant f m l v (t + 1)
-  skipped {exhausted = exhausted} k test failed ef em el ev = rw (ef, em, el, ev) record {
+  pub skipped : {left marks placed exhausted : List ℕ} {t : ℕ} {b : Bool} → Lowers room marks₀ vacant left marks placed exhausted t
+      → b ≡ (holds (get_or marks₀ 0 0) t && eqb (get_or exhausted t 0) 0) → b ≡ false
+      → Lowers room marks₀ vacant left marks placed exhausted (t + 1)
+  skipped {exhausted = exhausted} k test failed = record {
     as_marked = k.as_marked;
     as_placed = k.as_placed;
     positions = k.positions;

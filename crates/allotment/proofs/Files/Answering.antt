@@ -2,26 +2,32 @@
 use Prim.Native.Nat.{ℕ, ◌+◌, ◌*◌, ◌≤◌, ◌<◌}
 use mathlib.Core.Path.{◌≡◌, sym, ap, ◌∙◌}
 use mathlib.Core.Bool.{Bool}
-use mathlib.Core.List.{List, ◌++◌}
+use mathlib.Core.List.{List, ◌++◌, append_assoc}
 use native.Mathlib.Omega.{arith}
-use lib.ListN.{length, get_or, drop, length-append}
-use lib.Seq.{sets, ext_get_or}
+use lib.ListN.{length, get_or, drop}
+use lib.Seq.{sets, ext_get_or, drop-drop}
 use Rattle.lists.specs.Lists.{tabulate, joined}
 use Rattle.questions.specs.declared.form.Form.{Form}
-use Rattle.questions.specs.Form.{institutes_most, seat_width}
+use Rattle.questions.specs.Form.{seat_width}
+use Rattle.questions.specs.declared.head.Head.{Head as CodeHead}
+use Rattle.reader.specs.declared.change.Change.{Change}
+use Rattle.reader.specs.Opened.{opened_round, OpenedFile}
+use Rattle.offers.proofs.Known.{candidates_many, institutes_many, candidates_few, round_sound}
+use Rattle.reader.proofs.Bodies.{opened_listed, institutes_fit}
+use Rattle.questions.specs.Records.{own_steps}
+use Rattle.questions.specs.Read.{as_head}
+use Rattle.offers.proofs.Rounds.AccountRound.{types_length}
 use Rattle.round.specs.Round.{Round}
-use Rattle.round.specs.Sound.{Sound}
 use Rattle.lists.proofs.Words.{length_tabulate}
-use Rattle.lists.proofs.Joined.{sets_append, sets_front}
-use Rattle.offers.specs.Process.{Seat, no_seat, candidate_count, institute_count, seats, types_used}
+use Rattle.offers.specs.Process.{Seat, no_seat, candidate_count, seats, types_used}
 use Rattle.allotment.specs.Areas.{closing_width, closing_bytes, answer_bytes, answer_size}
-use Rattle.offers.specs.Held.{HeldIn}
-use Rattle.offers.specs.Held.{seat_held, seats_held, held_bytes, HoldersFew}
+use Rattle.offers.specs.Held.{HeldIn, seat_held, seats_held, held_bytes, HoldersFew}
 use Rattle.offers.proofs.Rounds.Bounds.{list_length}
 use Rattle.offers.proofs.Rounds.SeatsFew.{seat_few}
 use Rattle.lists.proofs.Pieces.{length_pieces}
 use Rattle.offers.proofs.SeatBytes.{length_seat}
-use Rattle.allotment.proofs.Files.AreaSeats.{length_closing, size_parts, length_answer}
+use Rattle.allotment.proofs.Files.Putting.{whole_put}
+use Rattle.allotment.proofs.Files.AreaSeats.{size_parts}
 use Rattle.offers.proofs.SeatsPut.{held_at, held_pieces}
 
 -- two arrays hold one list
@@ -36,63 +42,58 @@ length_held : (form : Form) (holders steps : List ℕ) → length (held_bytes fo
 unfolding held_bytes
 length_held form holders steps = length_pieces (seat_width form) (held_pieces form holders steps) (λ i. length_seat form _) (length holders)
 
--- a round of n candidates and m institutes, and two arrays that hold its list
-module _ (form : Form) (r : Round) {n m : ℕ} (candidates : candidate_count r ≡ n) (institutes : institute_count r ≡ m) {holders steps : List ℕ}
-    (list : HeldIn (seats r) holders steps) where
-  pub held_many : length holders ≡ n
-  held_many = list.holders_many ∙ list_length r ∙ candidates
+-- an opened round, and two arrays that hold its list
+module _ {file : List ℕ} {h : CodeHead} {change : Change} {row starts : List ℕ} (hand : OpenedFile file h change row starts) {holders steps : List ℕ}
+    (list : HeldIn (seats (opened_round file change row)) holders steps) where
+  abbrev r : Round
+  r = opened_round file change row
 
-  pub as_many : length steps ≡ length holders
-  as_many = list.steps_many ∙ sym list.holders_many
+  held_many : length holders ≡ h.candidates
+  held_many = list.holders_many ∙ list_length r ∙ candidates_many hand
+
+  pub as_many : (length steps ≡ length holders) × (length holders ≤ 512)
+  as_many = (list.steps_many ∙ sym list.holders_many, omega (arith, held_many, candidates_few hand))
 
   -- each holder is 0 or an institute that a file of the form may have
-  pub holders_small : {types : ℕ} → Sound types r → m ≤ institutes_most form → HoldersFew form holders
-  holders_small sound fit i l =
-      let inside : i < candidate_count r = omega (arith, held_many, candidates) in
+  pub holders_small : HoldersFew h.form holders
+  holders_small i l =
+      let inside : i < candidate_count r = omega (arith, held_many, candidates_many hand) in
       let at : (get_or (seats r) i no_seat).institute ≡ get_or holders i 0 = ap (λ (s : Seat). s.institute) (list.seat i (omega (arith, list_length r))) in
-      omega (arith, at, seat_few sound i inside, institutes)
+      omega (arith, at, seat_few (round_sound hand) i inside, institutes_many hand, institutes_fit hand)
 
-  abbrev width : ℕ
-  width = closing_width r.steps_listed
+  -- room for a seat of each
+  pub seats_room : {size : ℕ} → size ≡ seat_width h.form * h.candidates → seat_width h.form * length holders ≤ size
+  seats_room known = rw held_many (omega (arith, known))
 
-  -- the seats, behind them the closing places, and behind these the types
-  size_known : answer_size form r ≡ seat_width form * n + (width * m + n)
-  size_known = rw (candidates, institutes) (size_parts form r.steps_listed n m)
-
-  -- there is room for each
-  module _ {size : ℕ} (room : answer_size form r ≤ size) where
-    pub seats_room : seat_width form * length holders ≤ size
-    seats_room = rw held_many (omega (arith, size_known))
-
-    pub closings_room : {behind after : ℕ} → behind ≡ seat_width form * n → after ≡ size → behind + width * m ≤ after
-    closings_room e f = omega (arith, size_known)
-
-    pub types_room : {behind after w many : ℕ} {listed : Bool} → behind ≡ seat_width form * n → after ≡ size → listed ≡ r.steps_listed → w ≡ closing_width listed → many ≡ n
-        → behind + w * m + many ≤ after
-    types_room e f flag wide all = rw (wide, flag, all) (omega (arith, size_known))
+  -- a type for each
+  pub types_many : {types : List ℕ} → types ≡ types_used r → length types ≡ h.candidates
+  types_many typed = ap length typed ∙ types_length r ∙ candidates_many hand
 
   -- the three parts together
-  parts : held_bytes form holders steps ++ joined (tabulate m (closing_bytes r)) ++ types_used r ≡ answer_bytes form r
+  parts : held_bytes h.form holders steps ++ joined (tabulate h.institutes (closing_bytes r)) ++ types_used r ≡ answer_bytes h.form r
   unfolding held_bytes answer_bytes
-  parts = rw (held_one (seats r) holders steps list, held_many, ← candidates, ← institutes)
+  parts = rw (held_one (seats r) holders steps list, held_many, ← candidates_many hand, ← institutes_many hand)
 
-  length_closings : length (joined (tabulate m (closing_bytes r))) ≡ width * m
-  length_closings = length_pieces width (closing_bytes r) (length_closing r) m
+  -- and their sizes, with those that code has found of the seats and of the closing places of an institute
+  module _ {listed : Bool} {w size : ℕ} (flag : listed ≡ own_steps (as_head h)) (wide : w ≡ closing_width listed) (known : size ≡ seat_width h.form * h.candidates) where
+    pub size_known : answer_size h.form r ≡ size + (w * h.institutes + h.candidates)
+    size_known = rw (candidates_many hand, institutes_many hand, wide, flag, known, ← opened_listed hand) (size_parts h.form r.steps_listed h.candidates h.institutes)
 
-  pub answer_put : (area : List ℕ) {seated closed now types : List ℕ} {behind-seats w : ℕ} {listed : Bool} → listed ≡ r.steps_listed → w ≡ closing_width listed
-      → answer_size form r ≤ length area → behind-seats ≡ seat_width form * n
-      → seated ≡ sets area 0 (held_bytes form holders steps)
-      → closed ≡ sets seated behind-seats (joined (tabulate m (closing_bytes r)))
-      → types ≡ types_used r → now ≡ sets closed (behind-seats + w * m) types
-      → now ≡ answer_bytes form r ++ drop (answer_size form r) area
-  answer_put area {seated} {closed} {now} {types} {behind-seats} {w} flag wide room size first second typed third =
-      let closings : List ℕ = joined (tabulate m (closing_bytes r)) in
-      let held : List ℕ = held_bytes form holders steps in
-      let seats-long : length held ≡ seat_width form * n = length_held form holders steps ∙ ap (λ (n : ℕ). seat_width form * n) held_many in
-      let at : 0 + length held ≡ behind-seats = omega (arith, size, seats-long) in
-      let behind : 0 + length (held ++ closings) ≡ behind-seats + w * m =
-      rw (wide, flag) (omega (arith, size, length-append held closings, seats-long, length_closings)) in
-      let two : closed ≡ sets area 0 (held ++ closings) = second ∙ rw (first, ← at) (sets_append area 0 held _) in
-      third
-      ∙ (rw (two, ← behind, typed) (sets_append area 0 (held ++ closings) (types_used r) ∙ ap (λ (bytes : List ℕ). sets area 0 bytes) parts)
-      ∙ (sets_front area (answer_bytes form r) (omega (arith, length_answer form r)) ∙ rw (length_answer form r)))
+    pub closings_long : {long : ℕ} → long ≡ w * h.institutes → long ≡ closing_width r.steps_listed * h.institutes
+    closings_long e = e ∙ ap (λ (w : ℕ). w * h.institutes) (wide ∙ ap closing_width (flag ∙ sym (opened_listed hand)))
+
+    -- there is room for the types behind the others
+    pub types_room : {room rest behind : ℕ} → answer_size h.form r ≤ room → rest + size ≡ room → behind + w * h.institutes ≡ rest → h.candidates ≤ behind
+    types_room fits cut cut' = omega (arith, fits, cut, cut', size_known)
+
+    -- what stands behind them all stays
+    pub answer_put : (front area : List ℕ) {seated closings types copied rest behind : List ℕ} → length front ≡ size → seated ≡ sets front 0 (held_bytes h.form holders steps)
+        → closings ≡ joined (tabulate h.institutes (closing_bytes r)) → types ≡ types_used r → copied ≡ types → rest ≡ drop size area → behind ≡ drop (w * h.institutes) rest
+        → seated ++ (closings ++ (copied ++ drop h.candidates behind)) ≡ answer_bytes h.form r ++ drop (answer_size h.form r) area
+    answer_put front area {seated} {closings} {types} {copied} {rest} {behind} room first second typed third cut cut' =
+        let held : seated ≡ held_bytes h.form holders steps =
+        first ∙ whole_put front _ (room ∙ known ∙ sym (length_held h.form holders steps ∙ ap (λ (n : ℕ). seat_width h.form * n) held_many)) in
+        let stays : drop h.candidates behind ≡ drop (answer_size h.form r) area =
+        rw (cut', cut, size_known) (drop-drop h.candidates (w * h.institutes) (drop size area) ∙ drop-drop (w * h.institutes + h.candidates) size area) in
+        rw (stays, third, held, second, typed, ← parts)
+        (sym (append_assoc (held_bytes h.form holders steps) _ _) ∙ sym (append_assoc _ (types_used r) _))

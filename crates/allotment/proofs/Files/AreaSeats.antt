@@ -35,13 +35,6 @@ pub size_parts : (form : Form) (listed : Bool) (n m : ℕ) → size_for form lis
 size_parts Narrow listed n m = omega arith
 size_parts Wide listed n m = omega arith
 
--- by the width of the closing places that code has found
-pub narrow_size : {form : Form} (listed : Bool) (n m : ℕ) {w : ℕ} → form ≡ Narrow → w ≡ closing_width listed → 3 * n + w * m ≡ size_for form listed n m
-narrow_size listed n m f e = rw (f, e)
-
-pub wide_size : {form : Form} (listed : Bool) (n m : ℕ) {w : ℕ} → form ≡ Wide → w ≡ closing_width listed → 5 * n + w * m ≡ size_for form listed n m
-wide_size listed n m f e = rw (f, e)
-
 -- the number of closing places and their bytes, by the flag
 pub twelve : (listed : Bool) → listed ≡ true → 12 ≡ closing_count listed
 unfolding closing_count
@@ -50,14 +43,6 @@ twelve listed e = rw e
 pub six : (listed : Bool) → listed ≡ false → 6 ≡ closing_count listed
 unfolding closing_count
 six listed e = rw e
-
-pub twice_twelve : (listed : Bool) → listed ≡ true → 24 ≡ closing_width listed
-unfolding closing_width
-twice_twelve listed e = rw e
-
-pub twice_six : (listed : Bool) → listed ≡ false → 12 ≡ closing_width listed
-unfolding closing_width
-twice_six listed e = rw e
 
 -- two bytes for each closing place
 pub places_wide : (listed : Bool) → 2 * closing_count listed ≡ closing_width listed
@@ -82,10 +67,6 @@ closings_inside listed {w} {m} {j} e l = rw e (go listed)
     go : (listed : Bool) → closing_width listed * j + closing_width listed ≤ closing_width listed * m
     go true = omega arith
     go false = omega arith
-
--- and start within an area that has room for them all
-pub closings_before : (listed : Bool) (at : ℕ) {w m j size : ℕ} → w ≡ closing_width listed → j < m → at + w * m ≤ size → at + w * j ≤ size
-closings_before listed at e l room = omega (arith, closings_inside listed e l)
 
 -- byte x of the closing places of institute j lies within the bytes of m institutes' closing places
 pub within_closings : (listed : Bool) (m j x : ℕ) → j < m → x < closing_width listed → closing_width listed * j + x < closing_width listed * m

@@ -1,6 +1,6 @@
 -- The closing places of an institute: by its account, and as the numbers of the account have them.
-use Prim.Native.Nat.{ℕ, suc, ◌+◌, ◌*◌, ◌<◌, ◌≤◌}
-use mathlib.Core.Path.{◌≡◌, sym, ap, ◌∙◌}
+use Prim.Native.Nat.{ℕ, suc, ◌<◌, ◌≤◌}
+use mathlib.Core.Path.{◌≡◌, refl, sym, ap, ◌∙◌}
 use mathlib.Core.Bool.{Bool, true, false}
 use mathlib.Core.List.{List}
 use native.Mathlib.Omega.{arith}
@@ -10,9 +10,10 @@ use Rattle.round.specs.Round.{Round}
 use Rattle.round.specs.Places.{institute_at}
 use Rattle.lists.proofs.Words.{from_same, tabulate_at}
 use Rattle.choice.specs.Account.{StepAccount, account_of, closing_place}
+use Rattle.choice.specs.declared.step.Numbers.{Numbers}
 use Rattle.choice.specs.Noted.{numbers_of, noted_of}
 use Rattle.choice.proofs.Accounts.{merit_long, merit_place, largest_few, closing_largest}
-use Rattle.choice.proofs.Noted.{noted_at}
+use Rattle.choice.proofs.Noted.{none, map_front, noted_at, noted_long}
 use Rattle.offers.specs.Areas.{word_bytes}
 use Rattle.offers.specs.Offers.{marks_on, at_places, account_on}
 use Rattle.offers.specs.Process.{made_to, tried, account_at_end}
@@ -43,21 +44,25 @@ module _ (r : Round) (j k : ℕ) where
   place_at count l = tabulate_at count (λ k. closing_place (step_at_end r j k)) 0 k l
 
   -- and the number of the account
-  number_at : k < 12 → get_or (noted_of (account_at_end r j)) (k * 5 + 4) 0 ≡ closing_place (step_at_end r j k)
+  number_at : (numbers_of (step_at_end r j k)).closing ≡ closing_place (step_at_end r j k)
   unfolding numbers_of
-  number_at l = noted_at (account_at_end r j) k 4 l (omega arith)
+  number_at = refl
 
   -- a closing place is no larger than the merit list is long
   pub closing_few : (count : ℕ) → k < count → get_or (places_to count r j) k 0 ≤ length (institute_at r j).merit
   closing_few count l = omega (arith, place_at count l, closing_all, largest_few (step_at_end r j k) (length (institute_at r j).merit))
 
 -- the bytes are those of the numbers
-pub closings_in_lem : (r : Round) (j : ℕ) {noted : List ℕ} → noted ≡ noted_of (account_at_end r j) → closings_in r.steps_listed noted ≡ closing_bytes r j
+pub closings_in_lem : (r : Round) (j : ℕ) {noted : List Numbers} → noted ≡ noted_of (account_at_end r j) → closings_in r.steps_listed noted ≡ closing_bytes r j
 unfolding closings_in closing_bytes
 closings_in_lem r j {noted} e =
     let count : ℕ = closing_count r.steps_listed in
     ap joined
-    (from_same 0 count (λ k. word_bytes (get_or noted (k * 5 + 4) 0)) (λ k. word_bytes (get_or (closing_places r j) k 0))
+    (map_front (λ numbers. word_bytes numbers.closing) noted none count (omega (arith, places_few r.steps_listed, ap length e, noted_long (account_at_end r j)))
+    ∙ from_same 0 count (λ k. word_bytes (get_or noted k none).closing) (λ k. word_bytes (get_or (closing_places r j) k 0))
     (λ k l.
     ap word_bytes
-    (ap (λ (t : List ℕ). get_or t (k * 5 + 4) 0) e ∙ number_at r j k (omega (arith, places_few r.steps_listed)) ∙ sym (place_at r j k count (omega arith)))))
+    (ap (λ (t : List Numbers). (get_or t k none).closing) e
+    ∙ ap (λ (numbers : Numbers). numbers.closing) (noted_at (account_at_end r j) k none (omega (arith, places_few r.steps_listed)))
+    ∙ number_at r j k
+    ∙ sym (place_at r j k count (omega arith)))))

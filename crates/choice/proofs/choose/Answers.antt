@@ -1,38 +1,27 @@
 -- `choice::choose` meets its contract: each turn of the loop is a step of the definition. Assumes nothing.
-use mathlib.Core.Path.{refl, sym, ap, ◌∙◌}
+use Prim.Native.Nat.{◌<◌}
+use mathlib.Core.Path.{refl, ◌∙◌}
 use native.Mathlib.Omega.{arith}
-use lib.ListN.{length}
-use lib.Seq.{length-take-le, length_front}
-use Rattle.choice.proofs.Steps.{sized}
-use Rattle.choice.proofs.Choosing.{fewer_rules, set_out, go_on, arrive}
+use lib.Seq.{length_front}
+use Rattle.choice.proofs.Choosing.{no_rule, step_advances, set_out, go_on, arrive}
 use borrow.Author.Rules.{rules}
 use Rattle.choice.proofs.choose.Goals as goal
 
 pub loop-k-init : goal.loop-k-init
-loop-k-init c = (omega arith, refl, omega (arith, c.requires.places.few, sized 512 c.zeros-placed.ensures), refl, search set_out)
-
-pub slice_bounds-next_step-end : goal.slice_bounds-next_step-end
-slice_bounds-next_step-end c = sym (length-take-le _ _ c.loop-k.invariant.2)
-
-pub next_step-requires-clause-rule_table : goal.next_step-requires-clause-rule_table
-next_step-requires-clause-rule_table c = search fewer_rules
-
-pub next_step-requires-clause-placed_len : goal.next_step-requires-clause-placed_len
-next_step-requires-clause-placed_len c = length-take-le _ _ c.loop-k.invariant.2
-
-pub next_step-requires-clause-noted_len : goal.next_step-requires-clause-noted_len
-next_step-requires-clause-noted_len c = λ f. c.loop-k.invariant.3 ∙ ap length (c.requires.noted_value f)
+loop-k-init c = (refl, refl, set_out c.requires.places (search rules) (search rules))
 
 pub loop-k-preserved : goal.loop-k-preserved
 loop-k-preserved c =
-    let back = length_front c.loop-k.placed c.next_step.new.placed (length c.args.marks.now) c.next_step.auto.placed in
-    (omega arith, search rules, omega (arith, back, c.loop-k.invariant.2), search rules, search go_on)
-
-pub shape_of-steps : goal.shape_of-steps
-shape_of-steps c = c.loop-k.invariant.4.places.steps_each ∙ sym c.requires.places.steps_each
-
-pub shape_of-used : goal.shape_of-used
-shape_of-used c = c.loop-k.invariant.4.places.used_each ∙ sym c.requires.places.used_each
+    let a = c.args in
+    let l = c.loop-k in
+    let table = c.requires.rule_table in
+    let k : l.k < 12 = omega arith in (
+      refl,
+      length_front l.placed c.step-numbers.new.placed _ c.step-numbers.auto.placed ∙ l.invariant.1,
+      go_on c.loop-k-test.true k l.invariant.2 c.step-numbers.auto.steps c.step-numbers.auto.used
+          (step_advances a.types l.k _ (table.types_most, k, table.handed_on l.k no_rule c.loop-k-test.true, table.own_most l.k no_rule c.loop-k-test.true)
+          l.invariant.2.handing a.first a.marks.now a.offers.now l.steps l.used c.step-numbers.ensures),
+    )
 
 pub returns : goal.returns
-returns c = arrive (omega arith) c.loop-k.invariant.4
+returns c = arrive c.loop-k-test.false c.loop-k.invariant.2

@@ -12,7 +12,8 @@ use Rattle.round.specs.declared.entry.Category.{Category}
 use Rattle.round.specs.Category.{category_of}
 use Rattle.round.specs.Round.{Round}
 use Rattle.round.specs.Sound.{Sound}
-use Rattle.lists.proofs.Words.{and_fst, and_snd, or_cases}
+use Rattle.std.proofs.lemmas.Bool.{or_cases}
+use Rattle.lists.proofs.Words.{and_fst, and_snd}
 use Rattle.lists.proofs.Counting.{clash, or_right}
 use Rattle.offers.specs.Rows.{row_at, rank_in, entry_of}
 use Rattle.offers.specs.Offers.{OfferSet, place_on, steps_on, step_for}

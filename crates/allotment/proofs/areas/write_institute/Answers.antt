@@ -1,25 +1,19 @@
 -- The closing places of an institute are stored, two bytes each. The invariant: the area with the places passed put in.
 -- Assumes nothing.
-use borrow.Author.Rules.{rules}
 use mathlib.Core.Path.{refl}
-use native.Mathlib.Omega.{arith}
 use Rattle.allotment.proofs.Files.Putting.{count_few, places_room, closing_put, closings_put}
 use Rattle.allotment.proofs.areas.write_institute.Goals as goal
 
+pub shared_ref_as_front-numbers-items : goal.shared_ref_as_front-numbers-items
+shared_ref_as_front-numbers-items c = search count_few
+
 pub loop-k-init : goal.loop-k-init
-loop-k-init c = (omega arith, search rules, search count_few, search places_room, search rules, refl, refl)
-
-pub overflow_add-k : goal.overflow_add-k
-overflow_add-k c = omega arith
-
-pub offset_bounds-noted-k : goal.offset_bounds-noted-k
-offset_bounds-noted-k c = omega arith
-
-pub bounds-noted-k : goal.bounds-noted-k
-bounds-noted-k c = omega arith
+loop-k-init c = (search count_few, search places_room, refl)
 
 pub loop-k-preserved : goal.loop-k-preserved
-loop-k-preserved c = (omega arith, search rules, search rules, search rules, search rules, search rules, search (rules, closing_put))
+loop-k-preserved c =
+    let inv = c.loop-k.invariant in
+    (inv.0, inv.1, closing_put c.args.noted.now _ _ _ c.loop-k-test.true inv.2 c.write_word.ensures)
 
 pub returns : goal.returns
-returns c = search (rules, closings_put)
+returns c = closings_put c.args.listed c.args.noted.now _ c.told-noted c.closing_count-count.ensures c.loop-k.auto.k-end c.loop-k-test.false c.requires c.loop-k.invariant.2

@@ -1,7 +1,7 @@
 -- The bytes of the answer area, by the form, with those of the closing places.
 -- Assumes nothing.
 use native.Mathlib.Omega.{arith}
-use Rattle.allotment.proofs.Files.AreaSeats.{closings_few, narrow_size, wide_size}
+use Rattle.allotment.proofs.Files.AreaSeats.{closings_few}
 use Rattle.allotment.proofs.sizes.answer_size.Goals as goal
 
 pub overflow_mul-closings : goal.overflow_mul-closings
@@ -12,9 +12,3 @@ overflow_add-result c = omega (arith, closings_few _ c.closing_width.ensures c.r
 
 pub overflow_add-result-in-Wide : goal.overflow_add-result-in-Wide
 overflow_add-result-in-Wide c = omega (arith, closings_few _ c.closing_width.ensures c.requires.1)
-
-pub returns-in-Narrow : goal.returns-in-Narrow
-returns-in-Narrow c = search narrow_size
-
-pub returns-in-Wide : goal.returns-in-Wide
-returns-in-Wide c = search wide_size

@@ -1,32 +1,39 @@
 -- `offers::seats::seats_wanted` meets its contract: the loop keeps `SeatsWanted`. Assumes nothing.
-use mathlib.Core.Path.{refl}
+use mathlib.Core.Path.{refl, sym, ◌∙◌}
+use mathlib.Core.Logic.{◌≢◌}
 use native.Mathlib.Omega.{arith}
-use borrow.Author.Rules.{rules}
-use Rattle.offers.proofs.Wanted.{none_wanted, one_unseated, one_wanted, all_wanted, arrays_many, seat_known, seat_least, seat_most}
-use Rattle.offers.proofs.seats.seats_wanted.Goals.{then-number-ne0, else-number-ne0}
+use Rattle.std.proofs.lemmas.List.{length_push}
+use Rattle.offers.proofs.Pairs.{pair_turn, pairs_end}
+use Rattle.offers.proofs.Wanted.{one_unseated, one_wanted, all_wanted, arrays_many, seat_known, seat_least, seat_most}
 use Rattle.offers.proofs.seats.seats_wanted.Goals as goal
 
-pub loop-i-init : goal.loop-i-init
-loop-i-init g c = (omega arith, refl, search rules, search rules, search none_wanted)
-
-pub bounds-holders-i : goal.bounds-holders-i
-bounds-holders-i g c = omega (arith, arrays_many c.loop-i.invariant.2 c.loop-i.invariant.3)
-
 pub step_category-category-requires : goal.step_category-category-requires
-step_category-category-requires g c =
-    (refl, (c.loop-i.invariant.2, (search seat_known, search seat_least, search (seat_most, c.loop-i.invariant.2, c.loop-i.invariant.3))))
+step_category-category-requires c =
+    let a = c.args in
+    let pair = pair_turn a.holders.now a.steps.now c.into_iter-i-iterator.result c.loop-i.i-iterator c.next.new.self (cc) (cc) (cc) c.loop-i.yielded c.loop-i.yielded_by _ c.next.ensures.steps c.in-Some.is in
+    let held = c.from.ensures ∙ pair.first in
+    let some : c.from.result ≢ 0 = λ z. c.if-holder-ne0.true (sym c.from.ensures ∙ z) in
+    let step = c.from-then-holder-ne0.ensures ∙ pair.second in (
+      seat_known a.o.now.hand c.requires.held_in pair.in_second held some,
+      seat_least a.o.now.hand c.requires.held_in pair.in_second held some step,
+      seat_most a.o.now.hand c.requires.held_in pair.in_second held some step,
+    )
+
+pub loop-i-preserved-then-holder-ne0 : goal.loop-i-preserved-then-holder-ne0
+loop-i-preserved-then-holder-ne0 c =
+    let a = c.args in
+    let pair = pair_turn a.holders.now a.steps.now c.into_iter-i-iterator.result c.loop-i.i-iterator c.next.new.self (cc) (cc) (cc) c.loop-i.yielded c.loop-i.yielded_by _ c.next.ensures.steps c.in-Some.is in
+    rw (length_push c.loop-i.yielded _, pair.place)
+    (one_wanted c.loop-i.invariant pair.in_second (c.from.ensures ∙ pair.first) (c.from-then-holder-ne0.ensures ∙ pair.second) c.step_category-category.ensures c.set.ensures refl)
 
 pub loop-i-preserved : goal.loop-i-preserved
-loop-i-preserved g c = (
-  omega arith,
-  refl,
-  search rules,
-  search rules,
-  elim c.if-number-ne0.branch [
-    | then-number-ne0 w ↦ search one_wanted
-    | else-number-ne0 w ↦ search one_unseated
-  ],
-)
+loop-i-preserved c =
+    let a = c.args in
+    let pair = pair_turn a.holders.now a.steps.now c.into_iter-i-iterator.result c.loop-i.i-iterator c.next.new.self (cc) (cc) (cc) c.loop-i.yielded c.loop-i.yielded_by _ c.next.ensures.steps c.in-Some.is in
+    rw (length_push c.loop-i.yielded _) (one_unseated c.loop-i.invariant pair.first c.if-holder-ne0.false refl)
 
 pub returns : goal.returns
-returns g c = rw (← c.requires.0) (all_wanted c.loop-i.invariant.4 _ (omega arith))
+returns c =
+    let a = c.args in
+    let end = pairs_end a.holders.now a.steps.now c.into_iter-i-iterator.result c.loop-i.i-iterator c.next.new.self (cc) (cc) (cc) c.loop-i.yielded c.loop-i.yielded_by _ c.next.ensures.steps c.in-None.is in
+    all_wanted c.loop-i.invariant _ (omega (arith, end, arrays_many a.o.now.hand c.requires.held_in))

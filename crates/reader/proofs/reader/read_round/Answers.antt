@@ -1,26 +1,29 @@
 -- `reader::reader::read_round` meets its contract: the head, and what follows it (proofs/Rest.antt).
 -- Assumes nothing.
-use Rattle.reader.proofs.Rest.{round_refused, round_read, head_inside, head_room, head_range, head_behind, head_low}
-use borrow.Author.Rules.{rules}
+use native.Mathlib.Omega.{arith}
+use Rattle.std.proofs.lemmas.Result.{err_from_is_err_and}
+use Rattle.reader.proofs.Rest.{round_refused, round_read, head_inside, head_room, head_range, head_low}
 use Rattle.reader.proofs.reader.read_round.Goals as goal
 
-pub returns-in_default : goal.returns-in_default
-returns-in_default c = search round_refused
-
-pub slice_bounds-head_in-count : goal.slice_bounds-head_in-count
-slice_bounds-head_in-count c = search head_behind
-
-pub slice_bounds-head_in-start : goal.slice_bounds-head_in-start
-slice_bounds-head_in-start c = search head_behind
+pub returns-in_err-end : goal.returns-in_err-end
+returns-in_err-end c =
+    let p = err_from_is_err_and c.from_residual.result c.from_residual.ensures.1 in
+    rw (p.1, p.2) (round_refused _ _ c.form_of-form.ensures c.unread.ensures.1 c.read.ensures _ c.in_err-end.was)
 
 pub slice_bounds-head_in-end : goal.slice_bounds-head_in-end
-slice_bounds-head_in-end c = search head_inside
+slice_bounds-head_in-end c = omega (arith, head_inside _ _ c.form_of-form.ensures c.unread.ensures.1 c.read.ensures c.in_ok-end.was)
 
-pub head_in-h-requires : goal.head_in-h-requires
-head_in-h-requires c = search head_room
+pub head_in-head-requires : goal.head_in-head-requires
+head_in-head-requires c = head_room _ _ c.form_of-form.ensures c.unread.ensures.1 c.read.ensures c.in_ok-end.was
 
-pub read_rest-requires : goal.read_rest-requires
-read_rest-requires c = record { in_range = search head_range; from_in_bounds = (search head_inside, search head_low); in_bounds = search rules }
+pub read_rest-requires-clause-from_in_bounds : goal.read_rest-requires-clause-from_in_bounds
+read_rest-requires-clause-from_in_bounds c = (
+  head_inside _ _ c.form_of-form.ensures c.unread.ensures.1 c.read.ensures c.in_ok-end.was,
+  head_low _ _ c.form_of-form.ensures c.unread.ensures.1 c.read.ensures c.in_ok-end.was,
+)
 
 pub returns : goal.returns
-returns c = search round_read
+returns c = round_read _ _ c.form_of-form.ensures c.unread.ensures.1 c.read.ensures c.in_ok-end.was c.head_in-head.ensures c.read_rest.ensures
+
+pub invariant_of-read_rest : goal.invariant_of-read_rest
+invariant_of-read_rest c = record { in_range = head_range _ _ c.form_of-form.ensures c.unread.ensures.1 c.read.ensures c.in_ok-end.was c.head_in-head.ensures }

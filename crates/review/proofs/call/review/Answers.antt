@@ -1,17 +1,13 @@
 -- A file is read; it is refused, or the list is reviewed.
 -- Assumes nothing.
-use mathlib.Core.Path.{refl}
-use Rattle.reader.proofs.Calls.{read_refused, own_hand, own_opened}
+use Rattle.std.proofs.lemmas.Result.{err_from_is_err_and}
 use Rattle.review.proofs.Calling.{file_refused, file_called}
 use Rattle.review.proofs.call.review.Goals as goal
 
-pub returns-in_default : goal.returns-in_default
-returns-in_default c = file_refused _ (read_refused c.read_round-got.ensures c.refused_by-no.ensures c.in_default.is)
-
-pub review_round-requires : goal.review_round-requires
-review_round-requires c = (refl, search own_hand)
+pub returns-in_err-head : goal.returns-in_err-head
+returns-in_err-head c =
+    let p = err_from_is_err_and c.from_residual.result c.from_residual.ensures.1 in
+    rw (p.1, p.2) (file_refused _ c.read_round.ensures c.in_err-head.was)
 
 pub returns : goal.returns
-returns c =
-    let made = c.unchanged.ensures in
-    file_called _ (own_hand c.read_round-got.ensures c.in-Read.is made _) (own_opened c.read_round-got.ensures c.in-Read.is made _) c.review_round.ensures
+returns c = file_called _ c.read_round.ensures c.in_ok-head.was c.unchanged.ensures.head c.unchanged.ensures.round c.review_round.ensures

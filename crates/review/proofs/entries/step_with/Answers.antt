@@ -6,10 +6,7 @@ use borrow.Author.Rules.{rules}
 use Rattle.review.proofs.entries.step_with.Goals as goal
 
 pub add_entry-requires : goal.add_entry-requires
-add_entry-requires g c = (search rules, search rules, omega (arith, institutes_few))
-
-pub step_anew-step-requires : goal.step_anew-step-requires
-step_anew-step-requires g c = (search rules, (search rules, ((search rules, search rules), (search rules, search rules, search rules))))
+add_entry-requires c = (search rules, search rules, omega (arith, c.requires.i_lt_candidates.1, institutes_few c.args.o.now.hand))
 
 pub returns : goal.returns
-returns g c = (search step_added, search asked_back, search wanted_back)
+returns c = (search step_added, search asked_back, search wanted_back)

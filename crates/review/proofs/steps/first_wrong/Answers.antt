@@ -1,17 +1,8 @@
--- `review::steps::first_wrong` meets its contract: no seat passed is wrong. Assumes nothing.
+-- `review::steps::first_wrong` meets its contract: the test is that of the definition. Assumes nothing.
 use mathlib.Core.Path.{refl}
-use native.Mathlib.Omega.{arith}
-use Rattle.offers.proofs.FirstFound.{none_passed, one_failed, found, none_found}
+use borrow.Author.Rules.{rules}
+use Rattle.offers.proofs.FirstFound.{find_in_range}
 use Rattle.review.proofs.steps.first_wrong.Goals as goal
 
-pub loop-i-init : goal.loop-i-init
-loop-i-init c = (omega arith, refl, none_passed _)
-
-pub returns-then-is_wrong : goal.returns-then-is_wrong
-returns-then-is_wrong c = search found
-
-pub loop-i-preserved : goal.loop-i-preserved
-loop-i-preserved c = (omega arith, refl, search one_failed)
-
 pub returns : goal.returns
-returns c = search none_found
+returns c = find_in_range _ _ _ _ refl c.find.ensures.ran (λ x b q k. search rules)

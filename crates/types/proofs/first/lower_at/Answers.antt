@@ -12,14 +12,14 @@ lower-requires c = lowering c.requires c.reopen.ensures (omega (arith, c.require
 pub overflow_sub-room : goal.overflow_sub-room
 overflow_sub-room c = omega (arith, some_type c.requires c.lower.ensures)
 
-pub bounds-room-from_byte : goal.bounds-room-from_byte
-bounds-room-from_byte c = omega (arith, type_there c.requires c.lower.ensures)
+pub bounds-room-from : goal.bounds-room-from
+bounds-room-from c = omega (arith, type_there c.requires c.lower.ensures)
 
 pub overflow_sub-room-2 : goal.overflow_sub-room-2
-overflow_sub-room-2 c = omega (arith, position_there c.requires c.lower.ensures c.from_byte-2.result (omega arith))
+overflow_sub-room-2 c = omega (arith, position_there c.requires c.lower.ensures c.from-2.result (omega arith))
 
-pub bounds-room-from_byte-2 : goal.bounds-room-from_byte-2
-bounds-room-from_byte-2 c = omega (arith, type_there c.requires c.lower.ensures)
+pub bounds-room-from-2 : goal.bounds-room-from-2
+bounds-room-from-2 c = omega (arith, type_there c.requires c.lower.ensures)
 
 pub returns : goal.returns
-returns c = lowered_from c.requires c.lower.ensures c.from_byte-2.result (omega arith)
+returns c = lowered_from c.requires c.lower.ensures c.from-2.result (omega arith)

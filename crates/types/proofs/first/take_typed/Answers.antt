@@ -6,7 +6,7 @@ use Rattle.types.proofs.TookTyped.{took_typed, took_nobody}
 use Rattle.types.proofs.first.take_typed.Goals as goal
 
 pub take_for_use-count-requires-clause-left : goal.take_for_use-count-requires-clause-left
-take_for_use-count-requires-clause-left c = nobody_placed _ _ _ (length c.args.marks.now) (omega arith) c.positions_of-left.ensures.1 c.requires.5
+take_for_use-count-requires-clause-left c = nobody_placed _ _ _ (length c.args.marks.now) (omega arith) c.positions_of-left.ensures.1 c.requires.4
 
 pub returns-then-count-eq0 : goal.returns-then-count-eq0
 returns-then-count-eq0 c = search took_nobody
