@@ -110,7 +110,7 @@ for f in functions:
         put(KINDS[1], here)
     if any(n in ("first", "placed") and t == "bool" for n, t in f.params):
         put(KINDS[2], here)
-    if any(n in ("kind", "policy", "code") and t in ("usize", "u8") for n, t in f.params):
+    if f.name != "from" and any(n in ("kind", "policy", "code") and t in ("usize", "u8") for n, t in f.params):
         put(KINDS[3], here)
     if re.fullmatch(r"\[\w+; \d+\]", f.result) and not f.params:
         put(KINDS[4], here)

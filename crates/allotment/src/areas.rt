@@ -37,7 +37,8 @@ pub struct Seated<'a> {
 }
 
 impl Seated<'_> {
-    // The closing places of every institute, and the types used: each institute chooses once more, from its seats, whose categories a table has.
+    // The closing places of every institute, and the types used: each institute chooses once more, from its seats, whose categories a table has. Tables side by
+    // side, as `Offers` takes them.
     fn write_each(&self, wanted: &[u8], types: &mut [u8], closings: &mut [u8])
         requires wanted { SeatsWanted (round_at self.now.o) (length self.now.steps.now) self.now.holders.now self.now.steps.now wanted.now }
         requires types_value { types.old ≡ replicate self.now.o.head.candidates 0 }

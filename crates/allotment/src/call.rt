@@ -16,7 +16,7 @@ use reader::reader::read_round;
 use reader::refusal::Refusal;
 use sweeps::process::run_offers;
 
-// The offers of the opened round and its answer area; two arrays are for the seats.
+// The offers of the opened round and its answer area; two tables are for the seats, side by side as `run_offers` takes them.
 fn seat_all(o: &Opened<'_>, holders: &mut [u16], steps: &mut [u8], answer: &mut [u8]) -> usize
     requires holders_value { (holders.old ≡ replicate o.now.head.candidates 0) × (steps.old ≡ replicate o.now.head.candidates 0) }
     requires r_in_bounds { answer_size o.now.head.form (round_at o.now) ≤ length answer.old }
@@ -49,7 +49,7 @@ fn allot_round(o: &Opened<'_>, answer: &mut [u8], work: &mut [u8]) -> Result<usi
     Ok(offers)
 }
 
-// The allotment of a round file: the number of offers, or the refusal.
+// The allotment of a round file: the number of offers, or the refusal. Areas side by side, as C lends them.
 fn allot_file(file: &[u8], answer: &mut [u8], work: &mut [u8]) -> Result<usize, Refusal>
     ensures { Promise file.now answer.old work.old (answer_of result) answer.new work.new }
 {

@@ -18,7 +18,8 @@ pub struct ByMerit {
 }
 
 // Gives the step's number to each place that has a type, which is the type used, and to the best of the rest, as far as positions are free;
-// returns what the rest got. Tables side by side, as `choose` has them.
+// returns what the rest got. Tables side by side, as `choose` has them,
+// and two of them written by index.
 pub fn fill(
     free: usize,
     number: u8,

@@ -47,7 +47,7 @@ impl<'a> Listed<'a> {
         self.seats().step(i)
     }
 
-    // How many entries of the row of candidate i, from 0, rank above the listed seat.
+    // How many entries of the row of candidate i, from 0, rank above the listed seat: all of them where it is none of the row, by the definition.
     pub fn entries_above(&self, i: usize) -> usize
         requires { i < self.now.o.head.candidates }
         ensures { result ≡ above (round_at self.now.o) (seats_at self.now) i }

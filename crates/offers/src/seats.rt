@@ -19,7 +19,8 @@ pub fn rank_in(o: &Opened<'_>, i: usize, entry: Entry) -> usize
         .unwrap_or(size)
 }
 
-// The set of the category of each seat's step, by the two tables that the process leaves; 0 for none, as `HeldIn` has it.
+// The set of the category of each seat's step, by the two tables that the process leaves; 0 for none, as `HeldIn` has it. The third is
+// written by index, since a proof has no values behind `iter_mut().zip`.
 pub fn seats_wanted(o: &Opened<'_>, holders: &[u16], steps: &[u8], wanted: &mut [u8])
     requires held_in { HeldIn (seats (round_at o.now)) holders.now steps.now }
     requires wanted_len { length wanted.old ≡ length steps.now }

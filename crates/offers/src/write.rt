@@ -30,7 +30,7 @@ fn write_seat(area: &mut [u8], form: Form, i: usize, institute: u16, step: u8)
     }
 }
 
-// For each candidate, the seat, by the two tables that the process leaves.
+// For each candidate, the seat, by the two tables that the process leaves side by side.
 pub fn write_seats(form: Form, holders: &[u16], steps: &[u8], area: &mut [u8])
     requires steps_len { (length steps.now ≡ length holders.now) × (length holders.now ≤ 512) }
     requires holders_few { HoldersFew form holders.now }

@@ -31,6 +31,7 @@ fn some_to_try(marks: u8, visited: &[u8]) -> bool
 }
 
 // Going up the places from before `end`, the next one who is placed at type t and has some type where the search has not been.
+// Tables side by side, as in `place`.
 fn next_holder(marks: &[u8], placed: &[u8], visited: &[u8], t: usize, end: usize) -> Option<usize>
     requires { (t < 8) × (end ≤ length placed.now) × (length placed.now ≡ length marks.now) × (length visited.now ≡ 8) }
     ensures { Sought marks.now placed.now visited.now t end result }

@@ -17,7 +17,7 @@ pub fn considers(offers: &[u8], steps: &[u8], category: Category, p: usize) -> b
     has_type(offers[p], usize::from(u8::from(category))) && steps[p] == 0
 }
 
-// The types that have no positions, which are exhausted from the start.
+// The types that have no positions, which are exhausted from the start. By index, since a proof has no values behind `iter_mut().zip`.
 fn without_positions(reserved: &[usize]) -> [u8; 8]
     requires { length reserved.now ≤ 8 }
     ensures { Without reserved.now result }
@@ -39,7 +39,7 @@ fn some_open(exhausted: &[u8], types: usize) -> bool
     exhausted[..types].iter().any(|seen| *seen == 0)
 }
 
-// Places p with those taken before, if that can be; what a search in vain visited is exhausted.
+// Places p with those taken before, if that can be; what a search in vain visited is exhausted. Tables side by side, as in `place`.
 pub fn take_one(
     reserved: &[usize],
     left: &mut [usize],

@@ -46,7 +46,7 @@ fn head_with(types: usize, policy: usize) -> Head
     }
 }
 
-// Whether a body has steps that a choice can go by.
+// Whether a body has steps that a choice can go by; types and policy are numbers as C gives them.
 fn body_fits(body: &[u8], types: usize, policy: usize) -> bool
     ensures { result ≡ body_fits (head_with types policy) body.now }
 {
@@ -65,7 +65,7 @@ fn places_fit(places: usize, offers: usize, steps: usize, used: usize) -> bool
 }
 
 // The step of each place by an institute's choice, and the type used there, from the marks and the set of offers; where body and lengths do not
-// fit, nothing happens.
+// fit, nothing happens. Numbers and tables side by side, as C gives them.
 pub fn tazbilk_choose(
     body: &[u8],
     types: usize,

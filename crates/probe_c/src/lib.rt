@@ -14,7 +14,7 @@ pub extern "C" fn tazbilk_verdict(file: &[u8], res: &mut [u64; 2])
 }
 
 // The step of each place by an institute's choice, and the type used there, from the marks and the set of offers; where body and lengths do not
-// fit, nothing happens.
+// fit, nothing happens. Numbers and tables side by side, as C gives them.
 #[unsafe(no_mangle)]
 pub extern "C" fn tazbilk_choose(
     body: &[u8],

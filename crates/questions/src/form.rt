@@ -24,7 +24,7 @@ pub fn form_of(file: &[u8]) -> Form
     }
 }
 
-// The most institutes that a round may have.
+// The most institutes that a round may have. One function with the numbers for arguments would be no plainer than this and each like it.
 pub fn institutes_most(form: Form) -> usize
     ensures { result ≡ institutes_most form }
 {

@@ -65,7 +65,7 @@ impl Steps<'_> {
         )
     }
 
-    // The code of the category of step k, from 0.
+    // The code of the category of step k, from 0; a number, since question 17 is asked of every byte.
     pub fn code(&self, k: usize) -> usize
         requires { k < step_count (as_head self.now.head) self.now.body.now }
         ensures { (result ≡ step_code (as_head self.now.head) self.now.body.now k) × (result < 256) }

@@ -40,7 +40,7 @@ impl Row<'_> {
         }
     }
 
-    // The code of the entry at a place, from 0.
+    // The code of the entry at a place, from 0; a number, since question 9 is asked of every byte.
     pub fn code(&self, k: usize) -> u8
         requires { k < entry_count self.now.form self.now.bytes.now }
         ensures { result ≡ code_in self.now.form self.now.bytes.now k }

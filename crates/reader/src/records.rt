@@ -16,7 +16,7 @@ use questions::institute::{Steps, step_width};
 use questions::merit::ask_merit;
 use questions::question::Question;
 
-// The bytes of an entry.
+// The bytes of an entry; a function by itself, as `institutes_most` is.
 fn entry_width(form: Form) -> usize
     ensures { (result ≡ entry_width form) × (0 < result) × (result ≤ 3) }
 {
@@ -56,7 +56,7 @@ pub struct Records<'a> {
 }
 
 impl Records<'_> {
-    // Whether the table allows a body length for a kind.
+    // Whether the table allows a body length for a kind; a `match`, since a closure for each kind would be no plainer.
     fn length_allowed(&self, kind: usize, len: usize) -> bool
         ensures { result ≡ length_allowed (as_head self.now.head) kind len }
     {
@@ -90,7 +90,7 @@ impl Records<'_> {
         Ok(start + len)
     }
 
-    // The questions of a kind about a body.
+    // The questions of a kind about a body, picked as in `length_allowed`.
     fn ask_body(&self, body: &[u8], kind: usize) -> Result<(), Question>
         requires { length_allowed (as_head self.now.head) kind (length body.now) ≡ true }
         ensures { number_in result ≡ first_no (kind_questions (as_head self.now.head) kind body.now) }

@@ -39,7 +39,7 @@ impl Listing {
     };
 }
 
-// The categories of candidate c's offer, by two tables, where it is made to the institute with a number, else none.
+// The categories of candidate c's offer, by two tables, where it is made to the institute with a number, else none, which is the empty set.
 #[tactic(auto, unfolding(crate::specs::Sweeps::offer_to))]
 pub fn offer_to(asked: &[u16], wanted: &[u8], number: usize, c: usize) -> u8
     requires { (c < length asked.now) × (c < length wanted.now) }
@@ -63,7 +63,7 @@ impl Offers<'_> {
             (length (institute_at (round_at self.now.o) j).merit)
             listing.new.who listing.new.marks listing.new.sets listing.new.places listing.new.count }
     {
-        // Copied, since the compiler reads what is behind a reference anew after each write.
+        // By place, since `merit_place` takes the number, and four tables are filled. Copied, since the compiler reads what is behind a reference anew after each write.
         let Offers { o, asked, wanted } = *self;
         let mut count = 0;
         for p in 0..o.merit_length(j) {

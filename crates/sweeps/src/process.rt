@@ -14,7 +14,7 @@ use crate::offering::offer_all;
 use reader::opened::Opened;
 
 // Sweeps from the state in which nothing is tried and nobody held, until nobody offers, which no number of turns tells beforehand; returns how many offers
-// were made.
+// were made. Tables side by side, as `Offers` takes them.
 fn sweep_all(
     o: &Opened<'_>,
     tried: &mut [u8],
@@ -49,7 +49,7 @@ fn sweep_all(
     }
 }
 
-// Whoever has no step has no holder.
+// Whoever has no step has no holder. By index, since a proof has no values behind `iter_mut().zip`.
 fn drop_holders(steps: &[u8], holders: &mut [u16])
     requires { length holders.old ≡ length steps.now }
     ensures { holders.new ≡ settled holders.old steps.now }

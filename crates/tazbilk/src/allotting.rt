@@ -14,7 +14,7 @@ fn allot_numbers(told: Answer) -> [u64; 3]
     }
 }
 
-// The allotment of a round file, with the answer as three numbers.
+// The allotment of a round file, with the answer as three numbers. Areas side by side, as C lends them.
 pub fn tazbilk_allot(file: &[u8], answer: &mut [u8], work: &mut [u8], res: &mut [u64; 3])
     ensures { Exported file.now answer.old work.old
         res.new answer.new work.new }

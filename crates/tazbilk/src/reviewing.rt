@@ -20,7 +20,7 @@ fn review_numbers(told: Result<Judgement, Refusal>) -> [u64; 4]
     }
 }
 
-// The review of a list of seats for a round file, with what it says as four numbers.
+// The review of a list of seats for a round file, with what it says as four numbers. Areas side by side, as C lends them.
 pub fn tazbilk_review(file: &[u8], list: &[u8], work: &mut [u8], res: &mut [u64; 4])
     ensures { Exported file.now list.now work.old res.new work.new }
 {

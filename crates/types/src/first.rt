@@ -58,7 +58,7 @@ fn lower(
 }
 
 // Gives place p the smallest type that it can have with those before it as they are and all placed who are, and takes a position of that
-// type away.
+// type away. Tables side by side, as in `lower`.
 fn lower_at(
     room: &mut [usize],
     left: &mut [usize],
