@@ -1,6 +1,6 @@
 -- What the public call knows: of the opened round, by the sizes that question 14 asks for, and of the file.
 use Prim.Native.Nat.{ℕ, ◌*◌, ◌<◌, ◌≤◌}
-use mathlib.Core.Path.{◌≡◌, refl, sym, ap, ◌∙◌, subst}
+use mathlib.Core.Path.{◌≡◌, refl, sym, ap, ◌∙◌}
 use mathlib.Core.Bool.{Bool, true, false, cond, ◌&&◌}
 use mathlib.Core.List.{List, ◌++◌}
 use native.Mathlib.Omega.{arith}
@@ -24,10 +24,10 @@ use Rattle.reader.proofs.Calls.{work_by_lem, read_refused}
 use Rattle.offers.specs.Process.{candidate_count, institute_count, offers_made}
 use Rattle.offers.proofs.Known.{candidates_many, institutes_many}
 use Rattle.std.specs.Prelude.{Result, Ok, Err}
-use Rattle.questions.specs.Numbered.{number_of}
 use Rattle.questions.specs.declared.question.Question.TheVariants.{Areas}
 use Rattle.reader.specs.declared.refusal.Refusal.{Refusal}
 use Rattle.allotment.specs.declared.Answer.{Answer}
+use Rattle.allotment.specs.declared.Answer.TheVariants.{Refused}
 use Rattle.allotment.specs.Areas.{size_for, answer_bytes, answer_size}
 use Rattle.allotment.specs.Outcome.{answer_of, outcome, answer_after, work_after, Called}
 use Rattle.allotment.specs.Promise.{Promise}
@@ -89,11 +89,13 @@ module _ {file : List ℕ} {h : CodeHead} {change : Change} {row starts : List �
 
 -- a file that is refused, and one whose own round was at hand
 module _ (file : List ℕ) {answer work : List ℕ} where
-  pub file_refused : {read : Result CodeHead Refusal} {starts : List ℕ} {f : Refusal} → RoundRead file read starts → read ≡ Err f → Promise file answer work (answer_of (Err f)) answer work
+  pub file_refused : {number offset : ℕ} → verdict file ≡ verdicts.refused number offset → Promise file answer work (Refused number offset) answer work
   unfolding outcome answer_after work_after
-  file_refused {f = f} read e =
-      let refused : verdict file ≡ verdicts.refused (number_of f.question) f.offset = read_refused (rw e at read) in
-      promised file answer work _ answer work (rw refused) (rw refused) (rw refused)
+  file_refused e = promised file answer work _ answer work (rw e) (rw e) (rw e)
+
+  -- as the reader hands it up
+  pub round_refused : {read : Result CodeHead Refusal} {starts : List ℕ} {f : Refusal} → RoundRead file read starts → read ≡ Err f → Promise file answer work (answer_of (Err f)) answer work
+  round_refused read e = file_refused (read_refused (rw e at read))
 
   passes_called : {result : Answer} {answerNow workNow : List ℕ} → verdict file ≡ verdicts.passes → Called (form_of file) (round_of file) answer work result answerNow workNow → Promise file answer work result answerNow workNow
   unfolding outcome answer_after work_after
@@ -101,11 +103,20 @@ module _ (file : List ℕ) {answer work : List ℕ} where
       promised file answer work result answerNow workNow (rw e c.answered)
       (rw (e, ← c.answered) c.answer_area) (rw (e, ← c.answered) c.work_area)
 
-  pub file_called : {read : Result CodeHead Refusal} {starts : List ℕ} {h given : CodeHead} → RoundRead file read starts → read ≡ Ok h → given ≡ h → {r : Round} → r ≡ round_of file
+  -- the round is the file's own
+  own_called : {form : Form} {r : Round} → verdict file ≡ verdicts.passes → form ≡ form_of file → r ≡ round_of file
+      → {result : Answer} {answerNow workNow : List ℕ} → Called form r answer work result answerNow workNow
+      → Promise file answer work result answerNow workNow
+  own_called accepted form own called = passes_called accepted (rw (form, own) at called)
+
+  pub file_called : {h : CodeHead} {change : Change} {row starts : List ℕ} → OpenedFile file h change row starts → opened_round file change row ≡ round_of file
+      → {result : Answer} {answerNow workNow : List ℕ} → Called h.form (opened_round file change row) answer work result answerNow workNow
+      → Promise file answer work result answerNow workNow
+  file_called hand own called = own_called hand.accepted (ap (λ (h : Head). h.form) hand.head) own called
+
+  pub round_called : {read : Result CodeHead Refusal} {starts : List ℕ} {h given : CodeHead} → RoundRead file read starts → read ≡ Ok h → given ≡ h → {r : Round} → r ≡ round_of file
       → {result : Answer} {answerNow workNow : List ℕ} → Called given.form r answer work result answerNow workNow
       → Promise file answer work result answerNow workNow
-  file_called {h = h} round e given {r} own {result} {answerNow} {workNow} called =
+  round_called {h = h} round e given own called =
       let form : h.form ≡ form_of file = ap (λ (h : Head). h.form) (round.head h e) in
-      passes_called (sym round.answer ∙ ap verdict_of e)
-      (subst (λ (r : Round). Called (form_of file) r answer work result answerNow workNow) own
-      (subst (λ (form : Form). Called form r answer work result answerNow workNow) (ap (λ (h : CodeHead). h.form) given ∙ form) called))
+      own_called (sym round.answer ∙ ap verdict_of e) (ap (λ (h : CodeHead). h.form) given ∙ form) own called

@@ -30,7 +30,7 @@ fn write_institute(noted: &[Numbers; 12], listed: bool, places: &mut [u8])
 // A round with its seats as the two tables of the process hold them: the institute and the step of each candidate, 0 and 0 for none as `HeldIn` has it.
 #[derive(Clone, Copy)]
 pub struct Seated<'a> {
-    pub o: Opened<'a>,
+    pub o: Opened<'a, 'a>,
     pub holders: &'a [u16],
     pub steps: &'a [u8],
     pub ghost held: { HeldIn (seats (round_at o)) holders.now steps.now },

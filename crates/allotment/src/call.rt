@@ -17,7 +17,7 @@ use reader::refusal::Refusal;
 use sweeps::process::run_offers;
 
 // The offers of the opened round and its answer area; two tables are for the seats, side by side as `run_offers` takes them.
-fn seat_all(o: &Opened<'_>, holders: &mut [u16], steps: &mut [u8], answer: &mut [u8]) -> usize
+fn seat_all(o: &Opened<'_, '_>, holders: &mut [u16], steps: &mut [u8], answer: &mut [u8]) -> usize
     requires holders_value { (holders.old ≡ replicate o.now.head.candidates 0) × (steps.old ≡ replicate o.now.head.candidates 0) }
     requires r_in_bounds { answer_size o.now.head.form (round_at o.now) ≤ length answer.old }
     ensures { (result ≡ offers_made (round_at o.now))
@@ -34,7 +34,7 @@ fn seat_all(o: &Opened<'_>, holders: &mut [u16], steps: &mut [u8], answer: &mut 
 }
 
 // Question 14, and the allotment of the opened round.
-fn allot_round(o: &Opened<'_>, answer: &mut [u8], work: &mut [u8]) -> Result<usize, Refusal>
+fn allot_round(o: &Opened<'_, '_>, answer: &mut [u8], work: &mut [u8]) -> Result<usize, Refusal>
     ensures { Called o.now.head.form (round_at o.now) answer.old work.old (answer_of result) answer.new work.new }
 {
     let h = o.head;

@@ -18,7 +18,8 @@ use step::{Numbers, step};
 // The step at which each place is taken, 0 for none as C has it, by the rules of the steps, the marks and the offers at the places, and with `first`
 // also the type used there, 0 where it is not taken for use; returns the account of the steps as numbers.
 // Tables side by side, as they come from C (`tazbilk_choose`). A flag beside the table of types, since of an `Option<&mut [u8]>` a contract has
-// no `new`.
+// no `new`. Inlined, since the compiler then leaves out an account that nobody reads.
+#[inline(always)]
 pub fn choose(
     rules: &[Rule],
     types: usize,

@@ -52,6 +52,13 @@ module _ {file : List ℕ} {h : CodeHead} {change : Change} {row starts list : L
   pub bytes_inside : (i < 512) × (seat_width h.form * i + seat_width h.form ≤ length list)
   bytes_inside = (omega (arith, candidates_few hand), seat_inside h.form at.size inside)
 
+  -- both parts by themselves, the bytes in any list that is the same
+  pub few_listed : i < 512
+  few_listed = bytes_inside.0
+
+  pub bytes_listed : {form : Form} {bytes : List ℕ} → form ≡ h.form → bytes ≡ list → seat_width form * i + seat_width form ≤ length bytes
+  bytes_listed e d = rw (e, d) bytes_inside.1
+
   pub bytes_seat : seat_on seats i ≡ seat_in h.form list i
   bytes_seat = seat_at h.form r list i (omega (arith, candidates_many hand))
 

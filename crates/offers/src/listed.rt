@@ -12,7 +12,7 @@ use round::entry::Entry;
 // A round, and bytes with a seat for each of its candidates.
 #[derive(Clone, Copy)]
 pub struct Listed<'a> {
-    pub o: Opened<'a>,
+    pub o: Opened<'a, 'a>,
     pub list: &'a [u8],
     pub ghost under_review: { UnderReview o.head list.now },
 }
@@ -32,6 +32,7 @@ impl<'a> Listed<'a> {
     }
 
     // The institute number of candidate i's seat.
+    #[tactic(auto, using(crate::proofs::SeatsRanked::few_listed, crate::proofs::SeatsRanked::bytes_listed))]
     pub fn institute(&self, i: usize) -> usize
         requires { i < self.now.o.head.candidates }
         ensures { (result ≡ (seat_in self.now.o.head.form self.now.list.now i).institute) × (result < 65536) }
@@ -40,6 +41,7 @@ impl<'a> Listed<'a> {
     }
 
     // The step of candidate i's seat; 256 or more where a wide seat does not end with a zero byte.
+    #[tactic(auto, using(crate::proofs::SeatsRanked::few_listed, crate::proofs::SeatsRanked::bytes_listed))]
     pub fn step(&self, i: usize) -> usize
         requires { i < self.now.o.head.candidates }
         ensures { (result ≡ (seat_in self.now.o.head.form self.now.list.now i).step) × (result < 65536) }

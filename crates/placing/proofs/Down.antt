@@ -23,8 +23,8 @@ use Rattle.matching.proofs.Taking.{taken_for_use_considered, taken_before_placed
 use Rattle.placing.proofs.FrontPlaces.{searching_front, attempted_all}
 
 -- just those taken below p have a type; left is what they leave of the positions; the exhausted types are full, and who is placed at one
--- holds exhausted types only
-pub record Down (reserved marks : List ℕ) (considered : ℕ → Bool) (left placed exhausted : List ℕ) (n p : ℕ) : Type 0 where
+-- holds exhausted types only; without more all types are exhausted
+pub record Down (reserved marks : List ℕ) (considered : ℕ → Bool) (left placed exhausted : List ℕ) (more : Bool) (n p : ℕ) : Type 0 where
   pub placing : Placing reserved marks placed
   pub positions : Left reserved left placed
   pub each : (q : ℕ) → q < p → taken_for_use reserved marks considered q ≡ ltb 0 (get_or placed q 0)
@@ -34,6 +34,7 @@ pub record Down (reserved marks : List ℕ) (considered : ℕ → Bool) (left pl
   pub closed : (q t u : ℕ) → 0 < get_or exhausted t 0 → get_or placed q 0 ≡ suc t → u < length reserved
       → holds (get_or marks q 0) u ≡ true → 0 < get_or exhausted u 0
   pub types : length exhausted ≡ 8
+  pub over : more ≡ false → AllExhausted (length reserved) exhausted
 
 pub no_type : (n : ℕ) (l : List ℕ) (q : ℕ) → l ≡ replicate n 0 → get_or l q 0 ≡ 0
 no_type n l q e =
@@ -45,9 +46,9 @@ module _ (reserved marks : List ℕ) (X : ℕ → Bool) where
   abbrev H : ℕ → Bool
   H = taken_for_use reserved marks X
 
-  pub top : (left placed exhausted : List ℕ) → placed ≡ replicate (length marks) 0 → Left reserved left placed → Without reserved exhausted
-      → Down reserved marks X left placed exhausted 0 0
-  top left placed exhausted empty positions none = record {
+  pub top : (left placed exhausted : List ℕ) (more : Bool) → placed ≡ replicate (length marks) 0 → Left reserved left placed → Without reserved exhausted
+      → (more ≡ false → AllExhausted (length reserved) exhausted) → Down reserved marks X left placed exhausted more 0 0
+  top left placed exhausted more empty positions none over = record {
     placing = record {
       each = ap length empty ∙ length-replicate (length marks) zero;
       held = λ i t l e. absurd (clash i t e);
@@ -60,13 +61,14 @@ module _ (reserved marks : List ℕ) (X : ℕ → Bool) where
     full = λ t v. omega (arith, none.none t v);
     closed = λ q t u v e. absurd (clash q t e);
     types = none.types;
+    over = over;
   }
     where
       clash : (q t : ℕ) → get_or placed q 0 ≡ suc t → ⊥
       clash q t e = omega (arith, no_type (length marks) placed q empty)
 
   -- the end of the list is reached
-  pub bottom : {left placed exhausted : List ℕ} {n p : ℕ} → Down reserved marks X left placed exhausted n p → p ≡ length marks → Took reserved left marks placed X n
+  pub bottom : {left placed exhausted : List ℕ} {more : Bool} {n p : ℕ} → Down reserved marks X left placed exhausted more n p → p ≡ length marks → Took reserved left marks placed X n
   bottom d end = record {
     placing = d.placing;
     positions = d.positions;
@@ -74,11 +76,11 @@ module _ (reserved marks : List ℕ) (X : ℕ → Bool) where
     number = d.number ∙ ap (λ (k : ℕ). count_of k H) end;
   }
 
-  module _ {left placed₀ exhausted : List ℕ} {n p : ℕ} (inside : p < length marks) (d : Down reserved marks X left placed₀ exhausted n p) where
+  module _ {left placed₀ exhausted : List ℕ} {more : Bool} {n p : ℕ} (inside : p < length marks) (d : Down reserved marks X left placed₀ exhausted more n p) where
     unplaced : ltb 0 (get_or placed₀ p 0) ≡ false
     unplaced = le-ltb 0 (get_or placed₀ p 0) (omega (arith, d.rest p (omega arith)))
 
-    not_considered : X p ≡ false → Down reserved marks X left placed₀ exhausted n (p + 1)
+    not_considered : X p ≡ false → Down reserved marks X left placed₀ exhausted more n (p + 1)
     not_considered out = record {
       placing = d.placing;
       positions = d.positions;
@@ -88,6 +90,7 @@ module _ (reserved marks : List ℕ) (X : ℕ → Bool) where
       full = d.full;
       closed = d.closed;
       types = d.types;
+      over = d.over;
     }
       where
         not_taken : H p ≡ false
@@ -107,7 +110,7 @@ module _ (reserved marks : List ℕ) (X : ℕ → Bool) where
         ∙ ap (λ (A : List ℕ). raises reserved A (get_or marks p 0)) (taken_before_placed reserved marks X (λ q. get_or l q 0) p each)
 
     moved : (left' placed' : List ℕ) → X p ≡ true → Left reserved left' placed' → Moved reserved marks exhausted placed₀ placed' p
-        → Down reserved marks X left' placed' exhausted (n + 1) (p + 1)
+        → Down reserved marks X left' placed' exhausted more (n + 1) (p + 1)
     moved left' placed' in-play positions m = record {
       placing = m.placing;
       positions = positions;
@@ -117,6 +120,7 @@ module _ (reserved marks : List ℕ) (X : ℕ → Bool) where
       full = λ t v. omega (arith, d.full t v, no_fewer t v);
       closed = λ q t u v e. d.closed q t u v (m.comes q t v e).0;
       types = d.types;
+      over = d.over;
     }
       where
         same : (q : ℕ) → q < p → H q ≡ ltb 0 (get_or placed' q 0)
@@ -142,10 +146,11 @@ module _ (reserved marks : List ℕ) (X : ℕ → Bool) where
             away : (q t : ℕ) → q ≡ p → get_or placed₀ q 0 ≡ suc t → ⊥
             away q t s e = omega (arith, d.rest q (omega arith))
 
-    stuck : (left' placed' exhausted' : List ℕ) → X p ≡ true → Left reserved left' placed'
-        → Stuck reserved marks exhausted exhausted' placed₀ placed' p → length exhausted' ≡ 8 → Down reserved marks X left' placed' exhausted' n (p + 1)
-    stuck left' placed' exhausted' in-play positions s types =
-        subst (λ (l : List ℕ). Down reserved marks X left' l exhausted' n (p + 1)) (sym s.same)
+    stuck : (left' placed' exhausted' : List ℕ) (more' : Bool) → X p ≡ true → Left reserved left' placed'
+        → Stuck reserved marks exhausted exhausted' placed₀ placed' p → length exhausted' ≡ 8
+        → (more' ≡ false → AllExhausted (length reserved) exhausted') → Down reserved marks X left' placed' exhausted' more' n (p + 1)
+    stuck left' placed' exhausted' more' in-play positions s types over =
+        subst (λ (l : List ℕ). Down reserved marks X left' l exhausted' more' n (p + 1)) (sym s.same)
         record {
           placing = d.placing;
           positions = rw (← s.same) positions;
@@ -155,6 +160,7 @@ module _ (reserved marks : List ℕ) (X : ℕ → Bool) where
           full = full;
           closed = closed;
           types = types;
+          over = over;
         }
       where
         full : (t : ℕ) → 0 < get_or exhausted' t 0 → get_or reserved t 0 ≤ at_type placed₀ t
@@ -178,11 +184,11 @@ module _ (reserved marks : List ℕ) (X : ℕ → Bool) where
             away q t h e = omega (arith, d.rest q h)
 
     -- all types are exhausted
-    full_up : AllExhausted (length reserved) exhausted → Down reserved marks X left placed₀ exhausted n (p + 1)
+    full_up : AllExhausted (length reserved) exhausted → Down reserved marks X left placed₀ exhausted more n (p + 1)
     full_up all =
         test (X p)
         (λ in-play.
-        stuck left placed₀ exhausted in-play d.positions
+        stuck left placed₀ exhausted more in-play d.positions
         record {
           same = refl;
           more = λ t v. v;
@@ -190,7 +196,7 @@ module _ (reserved marks : List ℕ) (X : ℕ → Bool) where
           closed = λ q t u v z. absurd (omega arith);
           own = λ u l h. all u l;
         }
-        d.types)
+        d.types d.over)
         not_considered
 
     -- a search for the place goes down to it only: nobody beyond has a type
@@ -204,27 +210,26 @@ module _ (reserved marks : List ℕ) (X : ℕ → Bool) where
         → length part ≡ length (take (p + 1) placed₀) → Attempted reserved left left' marks exhausted exhausted' placed₀ (part ++ drop (p + 1) placed₀) p b
     among_all {part = part} a sized = attempted_all d.placing (p + 1) (omega arith) beyond part sized (omega arith) a
 
-    -- what stands after the place: where it is not considered, ..
+    -- what stands after the place: where all types are exhausted, ..
+    pub passed_full : more ≡ false → Down reserved marks X left placed₀ exhausted more n (p + 1)
+    passed_full none = full_up (d.over none)
+
+    -- .. where it is not considered, ..
     module _ {r : Bool} (said : r ≡ X p) where
-      pub passed : r ≡ false → Down reserved marks X left placed₀ exhausted n (p + 1)
+      pub passed : r ≡ false → Down reserved marks X left placed₀ exhausted more n (p + 1)
       passed out = not_considered (sym said ∙ out)
 
       -- .. where it is placed, and where the search for it is in vain
       module _ {left' part exhausted' : List ℕ} {b : Bool} (in-play : r ≡ true)
           (a : Attempted reserved left left' (take (p + 1) marks) exhausted exhausted' (take (p + 1) placed₀) part p b)
           (sized : length part ≡ length (take (p + 1) placed₀)) where
-        pub placed_one : b ≡ true → Down reserved marks X left' (part ++ drop (p + 1) placed₀) exhausted' (n + 1) (p + 1)
+        pub placed_one : b ≡ true → Down reserved marks X left' (part ++ drop (p + 1) placed₀) exhausted' more (n + 1) (p + 1)
         placed_one got =
             let all = among_all a sized in
             rw (a.spared got) (moved left' _ (sym said ∙ in-play) all.positions (all.found got))
 
-        pub passed_by : b ≡ false → length exhausted' ≡ length exhausted → Down reserved marks X left' (part ++ drop (p + 1) placed₀) exhausted' n (p + 1)
-        passed_by none kept =
+        pub passed_by : {more' : Bool} → b ≡ false → length exhausted' ≡ length exhausted → (more' ≡ false → AllExhausted (length reserved) exhausted')
+            → Down reserved marks X left' (part ++ drop (p + 1) placed₀) exhausted' more' n (p + 1)
+        passed_by {more'} none kept over =
             let all = among_all a sized in
-            stuck left' _ exhausted' (sym said ∙ in-play) all.positions (all.stuck none) (kept ∙ d.types)
-
-  -- all types are exhausted: nobody more is taken
-  pub run_out : (k : ℕ) {left placed exhausted : List ℕ} {n p : ℕ} → p + k ≡ length marks → Down reserved marks X left placed exhausted n p
-      → AllExhausted (length reserved) exhausted → Took reserved left marks placed X n
-  run_out zero e d all = bottom d (omega arith)
-  run_out (suc k) e d all = run_out k (omega arith) (full_up (omega arith) d all) all
+            stuck left' _ exhausted' more' (sym said ∙ in-play) all.positions (all.stuck none) (kept ∙ d.types) over

@@ -84,21 +84,28 @@ module _ (reserved marks placed : List ℕ) where
     own = λ u l held. k.own u (omega arith) held;
   }
 
-  -- the search for the holder at place h fails, where those above were passed over
-  pub fail : {visited₁ visited visited' before after : List ℕ} {t end h : ℕ} → Asked reserved marks placed visited₁ visited t end → before ≡ placed
-      → length reserved ≤ 8 → PassedOver marks before visited t end (suc h) → Stuck reserved marks visited visited' before after h → Asked reserved marks placed visited₁ visited' t h
-  fail {visited₁} {visited} {visited'} {before} {after} {t} {end} {h} a was few over stuck = record {
+  -- the places from r up to the end are passed over
+  pub pass : {visited₁ visited before : List ℕ} {t end r : ℕ} → Asked reserved marks placed visited₁ visited t end → before ≡ placed → length reserved ≤ 8
+      → PassedOver marks before visited t end r → Asked reserved marks placed visited₁ visited t r
+  pass {visited = visited} {t = t} {end} {r} a was few passed_over = record {
+    grown = a.grown;
+    asked = λ p w l e b held. less_or p end (λ less. s.over p l less e w (omega arith) held) (λ h. a.asked p w h e b held);
+  }
+    where
+      s : PassedOver marks placed visited t end r
+      s = subst (λ (l : List ℕ). PassedOver marks l visited t end r) was passed_over
+
+  -- the search for the holder at place h fails
+  pub fail : {visited₁ visited visited' before after : List ℕ} {t r h : ℕ} → Asked reserved marks placed visited₁ visited t r → r ≤ suc h → before ≡ placed
+      → Stuck reserved marks visited visited' before after h → Asked reserved marks placed visited₁ visited' t h
+  fail {visited₁} {visited} {visited'} {after = after} {h = h} a next was stuck = record {
     grown = join visited₁ visited visited' a.grown record { more = s.more; full = s.full; closed = s.closed };
     asked = λ p w l e b held.
-        same_or p h (λ q. s.own w b (rw q at held))
-        (λ q. s.more w (less_or p end (λ less. passed.over p (omega arith) less e w (omega arith) held) (λ beyond. a.asked p w beyond e b held)));
+        same_or p h (λ q. s.own w b (rw q at held)) (λ q. s.more w (a.asked p w (omega arith) e b held));
   }
     where
       s : Stuck reserved marks visited visited' placed after h
       s = subst (λ (x : List ℕ). Stuck reserved marks visited visited' x after h) was stuck
-
-      passed : PassedOver marks placed visited t end (suc h)
-      passed = subst (λ (x : List ℕ). PassedOver marks x visited t end (suc h)) was over
 
   -- type t is held by c and not visited
   module _ {visited₀ visited : List ℕ} {c t : ℕ} {r : Bool} (k : Tried reserved marks placed visited₀ visited c t) (types : length visited ≡ 8)

@@ -9,7 +9,10 @@ pub fn positions_of(reserved: &[usize]) -> [usize; 8]
     ensures { (length result ≡ 8) × (take (length reserved.now) result ≡ reserved.now) }
 {
     let mut room = [0usize; 8];
-    room[..reserved.len()].copy_from_slice(reserved);
+    // By index, since a copy of so few is a call, and over the elements the compiler fills the table and then copies it.
+    for t in 0..reserved.len() {
+        room[t] = reserved[t];
+    }
     room
 }
 

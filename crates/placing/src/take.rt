@@ -77,13 +77,11 @@ pub fn take_for_use(
     ensures { Took reserved.now left.new marks.now placed.new (considers_by offers.now steps.now (code_of category)) result }
 {
     let mut exhausted = without_positions(reserved);
-    if !some_open(&exhausted, reserved.len()) {
-        return 0;
-    }
+    let mut more = some_open(&exhausted, reserved.len());
     let mut n = 0;
-    // By place, since a search for place p moves those before it.
+    // By place, since a search for place p moves those before it; to the end also where no type is open any more, since `Down` holds at every place.
     for p in 0..marks.len() {
-        if considers(offers, steps, category, p) {
+        if more && considers(offers, steps, category, p) {
             let end = p + 1;
             if take_one(
                 reserved,
@@ -94,8 +92,8 @@ pub fn take_for_use(
                 p,
             ) {
                 n += 1;
-            } else if !some_open(&exhausted, reserved.len()) {
-                return n;
+            } else {
+                more = some_open(&exhausted, reserved.len());
             }
         }
     }

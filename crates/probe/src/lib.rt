@@ -86,6 +86,6 @@ pub fn tazbilk_choose(
     }
     let head = head_with(types, policy);
     let mut table = [Rule::NONE; 12];
-    let rules = rules_of(&Steps { body, head }, &mut table);
-    choose(rules, types, marks, offers, true, steps, used);
+    let count = rules_of(&Steps { body, head }, &mut table);
+    choose(&table[..count], types, marks, offers, true, steps, used);
 }

@@ -6,6 +6,7 @@ ghost use Rattle.round.specs.Places.{candidate_at, institute_at, entry_at, merit
 ghost use Rattle.reader.specs.Outcome.{RoundRead};
 ghost use Rattle.questions.specs.Reading.{row_in, round_of};
 ghost use Rattle.reader.specs.AtHand.{round_at};
+ghost use Rattle.reader.specs.declared.change.Change.TheVariants.{Nothing};
 ghost use Rattle.reader.specs.Access.{StepsRead};
 
 use crate::change::Change;
@@ -17,11 +18,14 @@ use questions::merit::merit_in;
 use questions::row::Row;
 use round::entry::{Category, Entry};
 
-impl<'a> Opened<'a> {
+impl<'f, 'a> Opened<'f, 'a> {
     // The file's own round.
-    pub fn unchanged(file: &'a [u8], head: Head, starts: &'a [u32]) -> Opened<'a>
+    pub fn unchanged(file: &'f [u8], head: Head, starts: &'a [u32]) -> Opened<'f, 'a>
         requires { RoundRead file.now (Ok head) starts.now }
         ensures head { result.head ≡ head }
+        ensures change { result.change ≡ Nothing }
+        ensures file { result.file.now ≡ file.now }
+        ensures starts { result.starts.now ≡ starts.now }
         ensures round { round_at result ≡ round_of file.now }
     {
         Opened {
@@ -34,7 +38,7 @@ impl<'a> Opened<'a> {
     }
 
     // The body of the record behind the head that has a number, from 0.
-    fn body(&self, k: usize) -> &'a [u8]
+    fn body(&self, k: usize) -> &'f [u8]
         requires { k < behind_head (head_of self.now.file.now) }
         ensures { result.now ≡ body_of self.now.file.now (1 + k) }
     {
@@ -45,7 +49,7 @@ impl<'a> Opened<'a> {
     }
 
     // The body of candidate i's record in the file.
-    fn candidate_body(&self, i: usize) -> &'a [u8]
+    fn candidate_body(&self, i: usize) -> &'f [u8]
         requires { i < self.now.head.candidates }
         ensures { result.now ≡ body_of self.now.file.now (1 + (self.now.head.institutes + i)) }
     {
@@ -61,7 +65,7 @@ impl<'a> Opened<'a> {
     }
 
     // The bytes of a candidate's row.
-    fn row_of(&self, i: usize) -> Row<'a>
+    fn row_of(&self, i: usize) -> Row<'_>
         requires { i < self.now.head.candidates }
         ensures { row_in result.form result.bytes.now ≡ (candidate_at (round_at self.now) i).row }
     {
@@ -93,7 +97,7 @@ impl<'a> Opened<'a> {
     }
 
     // The body of institute j's merit list in the file.
-    fn merit_body(&self, j: usize) -> &'a [u8]
+    fn merit_body(&self, j: usize) -> &'f [u8]
         requires { j < self.now.head.institutes }
         ensures { result.now ≡ body_of self.now.file.now (1 + (self.now.head.institutes + (self.now.head.candidates + j))) }
     {
@@ -117,7 +121,7 @@ impl<'a> Opened<'a> {
     }
 
     // An institute's steps, as they stand in its body.
-    pub fn steps(&self, j: usize) -> Steps<'a>
+    pub fn steps(&self, j: usize) -> Steps<'f>
         requires { j < self.now.head.institutes }
         ensures head { result.head ≡ self.now.head }
         ensures steps { StepsRead (round_at self.now) result.head j result.body.now }

@@ -5,10 +5,10 @@ use crate::change::Change;
 use questions::head::Head;
 
 // An accepted file with its head and the place where each record behind the head starts, a change, and the bytes of the new row where the change is
-// one to a row.
+// one to a row. The file has a lifetime of its own, since what is read from it stays when the table of starts goes.
 #[derive(Clone, Copy)]
-pub struct Opened<'a> {
-    pub file: &'a [u8],
+pub struct Opened<'f, 'a> {
+    pub file: &'f [u8],
     pub head: Head,
     pub change: Change,
     pub row: &'a [u8],

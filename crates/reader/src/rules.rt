@@ -1,5 +1,5 @@
 // The rules of an institute's steps, by which its choice goes.
-ghost use Rattle.std.specs.Prelude.{◌≡◌, ◌≤◌, ◌<◌};
+ghost use Rattle.std.specs.Prelude.{◌≡◌, ◌≤◌, ◌<◌, length, take};
 ghost use Rattle.questions.specs.Steps.{step_count};
 ghost use Rattle.questions.specs.Read.{as_head, LawfulSteps};
 ghost use Rattle.reader.specs.RulesRead.{RuleRead, RulesRead};
@@ -21,19 +21,24 @@ fn read_rule(steps: &Steps<'_>, k: usize, rule: &mut Rule)
     }
 }
 
-// The rules of the steps of an institute's body, put into a table; under policy 1 that of step 6 stands behind them.
-pub fn rules_of<'r>(steps: &Steps<'_>, table: &'r mut [Rule; 12]) -> &'r [Rule]
-    requires { LawfulSteps (as_head steps.now.head) steps.now.body.now }
-    ensures { RulesRead (as_head steps.now.head) steps.now.body.now result.now }
+// Puts the rules of the steps of an institute's body at the front of a table, and returns how many there are; under policy 1 that of step 6 stands behind them.
+// Not the rules themselves, since of a table that is lent out in parts a contract can't say what it holds afterwards.
+pub fn rules_of(steps: &Steps<'_>, table: &mut [Rule]) -> usize
+    requires lawful_steps { LawfulSteps (as_head steps.now.head) steps.now.body.now }
+    requires in_bounds { 12 ≤ length table.old }
+    ensures count { result ≤ 12 }
+    ensures rules { RulesRead (as_head steps.now.head) steps.now.body.now (take result table.new) }
 {
     let count = steps.count();
+    // Copied, since the compiler reads what is behind a reference anew after each write.
+    let own = *steps;
     for (k, rule) in table[..count].iter_mut().enumerate() {
-        read_rule(steps, k, rule);
+        read_rule(&own, k, rule);
     }
     if steps.head.policy == 1 {
         table[5] = Rule::NONE;
-        &table[..6]
+        6
     } else {
-        &table[..count]
+        count
     }
 }

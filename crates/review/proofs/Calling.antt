@@ -1,6 +1,6 @@
 -- What the review answers: for an opened round, by the sizes that questions 15 and 14 ask for, and for a file.
 use Prim.Native.Nat.{ℕ, ◌*◌, ◌<◌, ◌≤◌}
-use mathlib.Core.Path.{◌≡◌, refl, sym, ap, ◌∙◌, subst}
+use mathlib.Core.Path.{◌≡◌, refl, sym, ap, ◌∙◌}
 use mathlib.Core.Logic.{◌≢◌}
 use mathlib.Core.List.{List, ◌++◌}
 use native.Mathlib.Omega.{arith}
@@ -27,7 +27,7 @@ use Rattle.offers.proofs.Known.{candidates_many}
 use Rattle.review.specs.declared.Judgement.{Judgement}
 use Rattle.review.specs.Finding.{finding}
 use Rattle.review.specs.Outcome.{finding_of, outcome, work_after, Called}
-use Rattle.offers.specs.Listed.{list_size, list_of}
+use Rattle.offers.specs.Listed.{list_size, list_of, UnderReview}
 use Rattle.review.specs.Promise.{Promise}
 use Rattle.review.proofs.Promised.{promised}
 
@@ -51,6 +51,9 @@ module _ {file : List ℕ} {h : CodeHead} {change : Change} {row starts : List �
     other_size work d e = rw e record { answered = rw (ne_eqb (length list) (list_size h.form r) (λ e. d (e ∙ sym size_due))); work_area = refl }
 
     module _ (same : length list ≡ size) where
+      pub under_review : UnderReview h list
+      under_review = record { size = same ∙ due }
+
       pub work_small : {f : Refusal} (work : List ℕ) → length work < 8 * h.candidates → f ≡ no_areas → Called h.form r list work (Err f) work
       work_small work l e = rw e record {
         answered = rw (eq-eqb (length list) (list_size h.form r) (same ∙ size_due), lt-leb (work_size r) (length work) (omega (arith, candidates_many hand)));
@@ -72,21 +75,30 @@ module _ {file : List ℕ} {h : CodeHead} {change : Change} {row starts : List �
 
 -- a file that is refused, and one whose own round was at hand
 module _ (file : List ℕ) {list work : List ℕ} where
-  pub file_refused : {read : Result CodeHead Refusal} {starts : List ℕ} {f : Refusal} → RoundRead file read starts → read ≡ Err f → Promise file list work (Err f) work
+  pub file_refused : {f : Refusal} → verdict file ≡ verdicts.refused (number_of f.question) f.offset → Promise file list work (Err f) work
   unfolding outcome work_after
-  file_refused {f = f} read e =
-      let refused : verdict file ≡ verdicts.refused (number_of f.question) f.offset = read_refused (rw e at read) in
-      promised file list work (rw refused) (rw refused)
+  file_refused e = promised file list work (rw e) (rw e)
+
+  -- as the reader hands it up
+  pub round_refused : {read : Result CodeHead Refusal} {starts : List ℕ} {f : Refusal} → RoundRead file read starts → read ≡ Err f → Promise file list work (Err f) work
+  round_refused read e = file_refused (read_refused (rw e at read))
 
   passes_called : {result : Result Judgement Refusal} {workNow : List ℕ} → verdict file ≡ verdicts.passes → Called (form_of file) (round_of file) list work result workNow
       → Promise file list work result workNow
   unfolding outcome work_after
   passes_called e c = promised file list work (rw e c.answered) (rw (e, ← c.answered) c.work_area)
 
-  pub file_called : {read : Result CodeHead Refusal} {starts : List ℕ} {h given : CodeHead} → RoundRead file read starts → read ≡ Ok h → given ≡ h → {r : Round} → r ≡ round_of file
+  -- the round is the file's own
+  own_called : {form : Form} {r : Round} → verdict file ≡ verdicts.passes → form ≡ form_of file → r ≡ round_of file
+      → {result : Result Judgement Refusal} {workNow : List ℕ} → Called form r list work result workNow → Promise file list work result workNow
+  own_called accepted form own called = passes_called accepted (rw (form, own) at called)
+
+  pub file_called : {h : CodeHead} {change : Change} {row starts : List ℕ} → OpenedFile file h change row starts → opened_round file change row ≡ round_of file
+      → {result : Result Judgement Refusal} {workNow : List ℕ} → Called h.form (opened_round file change row) list work result workNow → Promise file list work result workNow
+  file_called hand own called = own_called hand.accepted (ap (λ (h : Head). h.form) hand.head) own called
+
+  pub round_called : {read : Result CodeHead Refusal} {starts : List ℕ} {h given : CodeHead} → RoundRead file read starts → read ≡ Ok h → given ≡ h → {r : Round} → r ≡ round_of file
       → {result : Result Judgement Refusal} {workNow : List ℕ} → Called given.form r list work result workNow → Promise file list work result workNow
-  file_called {h = h} round e given {r} own {result} {workNow} called =
+  round_called {h = h} round e given own called =
       let form : h.form ≡ form_of file = ap (λ (h : Head). h.form) (round.head h e) in
-      passes_called (sym round.answer ∙ ap verdict_of e)
-      (subst (λ (r : Round). Called (form_of file) r list work result workNow) own
-      (subst (λ (form : Form). Called form r list work result workNow) (ap (λ (h : CodeHead). h.form) given ∙ form) called))
+      own_called (sym round.answer ∙ ap verdict_of e) (ap (λ (h : CodeHead). h.form) given ∙ form) own called

@@ -30,7 +30,7 @@ fn find(listed: &Listed<'_>, asked: &mut [u16], wanted: &mut [u8], steps: &mut [
 }
 
 // Questions 15 and 14, and the review of a list for the opened round.
-fn review_round(o: &Opened<'_>, list: &[u8], work: &mut [u8]) -> Result<Judgement, Refusal>
+fn review_round(o: &Opened<'_, '_>, list: &[u8], work: &mut [u8]) -> Result<Judgement, Refusal>
     ensures { Called o.now.head.form (round_at o.now) list.now work.old result work.new }
 {
     let n = o.head.candidates;

@@ -52,7 +52,7 @@ fn step_anew(offers: &Offers<'_>, steps: &mut [u8], i: usize, j: usize) -> u8
 
 // The step that institute j, from 0, gives candidate i where i's entry of a category there is added; the tables of offers are as before.
 fn step_with(
-    o: &Opened<'_>,
+    o: &Opened<'_, '_>,
     asked: &mut [u16],
     wanted: &mut [u8],
     steps: &mut [u8],
@@ -79,7 +79,7 @@ fn step_with(
 }
 
 // Whether a step of institute j, from 0, takes entries of a category; 0 is no step.
-fn takes(o: &Opened<'_>, j: usize, step: usize, category: Category) -> bool
+fn takes(o: &Opened<'_, '_>, j: usize, step: usize, category: Category) -> bool
     requires j_lt_institutes { (j < o.now.head.institutes) × (step ≤ step_numbers (round_at o.now) j) }
     ensures { result ≡ (not (eqb step 0) && same_category (category_at (round_at o.now) j step) category) }
 {

@@ -9,7 +9,7 @@ use reader::opened::Opened;
 use sweeps::gather::Offers;
 
 // Every institute chooses from the offers to it, which two tables have, side by side as `Offers` takes them.
-pub fn give_steps(o: &Opened<'_>, asked: &[u16], wanted: &[u8], steps: &mut [u8])
+pub fn give_steps(o: &Opened<'_, '_>, asked: &[u16], wanted: &[u8], steps: &mut [u8])
     requires asked_len { (length asked.now ≡ o.now.head.candidates) × (length wanted.now ≡ o.now.head.candidates) × (steps.old ≡ replicate o.now.head.candidates 0) }
     ensures { StepsGiven (round_at o.now) asked.now wanted.now steps.new }
 {

@@ -49,8 +49,8 @@ unfolding holds
 none_held t = rw zero-div
 
 -- k offers are listed: who makes each, the marks and the offer
-module _ (r : Round) (j : ℕ) {types : ℕ} (sound : SoundInstitute (candidate_count r) types (institute_at r j)) (offer : ℕ → ℕ) {who marks offers places : List ℕ} {k : ℕ}
-    (g : Gathered r j offer (merit_length r j) who marks offers places k) where
+module _ (r : Round) (j : ℕ) {types : ℕ} (sound : SoundInstitute (candidate_count r) types (institute_at r j)) (offer : ℕ → ℕ) {first : Bool} {who marks offers places : List ℕ} {k : ℕ}
+    (g : Gathered r j offer first (merit_length r j) who marks offers places k) where
   abbrev X : ℕ → Bool
   X = offers_at r j offer
 
@@ -113,10 +113,10 @@ module _ (r : Round) (j : ℕ) {types : ℕ} (sound : SoundInstitute (candidate_
       rw (lt-ltb (place_on r j (get_or who q 0)) L (omega arith), is) x
 
   -- what is chosen among the listed is what is chosen among all
-  module _ {first : Bool} {found typed : List ℕ} {noted : List Numbers} {rules : List StepRule} (fits : k ≤ length marks)
+  module _ {found typed : List ℕ} {noted : List Numbers} {rules : List StepRule} (fits : k ≤ length marks)
       (chose : (found ≡ choose (take k marks) (offered_by (take k offers)) rules)
       × (first ≡ true → typed ≡ types_in (length (take k marks)) (account (take k marks) (offered_by (take k offers)) rules))
-      × (noted ≡ noted_of (account (take k marks) (offered_by (take k offers)) rules)))
+      × (first ≡ true → noted ≡ noted_of (account (take k marks) (offered_by (take k offers)) rules)))
       (er : rules ≡ (institute_at r j).steps) where
     front_long : length (take k marks) ≡ count_of L X
     front_long = length-take-le k marks fits ∙ g.number
@@ -138,16 +138,16 @@ module _ (r : Round) (j : ℕ) {types : ℕ} (sound : SoundInstitute (candidate_
         (at_places r j (offers_by offer)) (offered_by (take k offers)) offers_same rules p l x)
         ∙ ap (λ (s : List StepRule). type_in (account (marks_on r j) (at_places r j (offers_by offer)) s) p) er
 
-    few_noted : ClosingsFew k noted
-    few_noted =
-        rw (chose.2)
+    few_noted : first ≡ true → ClosingsFew k noted
+    few_noted told =
+        rw (chose.2 told)
         (λ i d l. omega (arith, noted_few (take k marks) (offered_by (take k offers)) rules i d l, length-take-le k marks fits))
 
-    noted_all : (table : List Numbers) → Placed places noted table → table ≡ noted_of (account_on r j (offers_by offer))
+    noted_all : first ≡ true → (table : List Numbers) → Placed places noted table → table ≡ noted_of (account_on r j (offers_by offer))
     unfolding account_on
-    noted_all table put =
+    noted_all told table put =
         noted_gathered X L (marks_on r j) (take k marks) (length-map (institute_at r j).merit _) front_long marks_front
-        (at_places r j (offers_by offer)) (offered_by (take k offers)) offers_same places g.places_at rules table (rw (chose.2) at put)
+        (at_places r j (offers_by offer)) (offered_by (take k offers)) offers_same places (g.places_at told) rules table (rw (chose.2 told) at put)
         ∙ ap (λ (s : List StepRule). noted_of (account (marks_on r j) (at_places r j (offers_by offer)) s)) er
 
     chosen_listed : {chosen used : List ℕ} → L ≤ 512 → ((q : ℕ) → q < k → get_or chosen q 0 ≡ get_or found q 0) → ((q : ℕ) → q < k → get_or used q 0 ≡ get_or typed q 0)
@@ -170,13 +170,13 @@ module _ (r : Round) (j : ℕ) {types : ℕ} (sound : SoundInstitute (candidate_
 
 -- the offers to an institute are listed, in tables that had room for every candidate
 module _ {file : List ℕ} {h : CodeHead} {change : Change} {row starts : List ℕ} (hand : OpenedFile file h change row starts) {j : ℕ} (inside : j < h.institutes) (asked wanted : List ℕ)
-    {who marks offers places : List ℕ} {k : ℕ}
-    (g : Gathered (opened_round file change row) j (offer_to (suc j) asked wanted) (merit_length (opened_round file change row) j) who marks offers places k) where
+    {first : Bool} {who marks offers places : List ℕ} {k : ℕ}
+    (g : Gathered (opened_round file change row) j (offer_to (suc j) asked wanted) first (merit_length (opened_round file change row) j) who marks offers places k) where
   -- listed and chosen among
-  pub listed_chosen : {first : Bool} {found typed : List ℕ} {noted : List Numbers} {rules : List StepRule} (found_rest typed_rest : List ℕ) → k ≤ length marks
+  pub listed_chosen : {found typed : List ℕ} {noted : List Numbers} {rules : List StepRule} (found_rest typed_rest : List ℕ) → k ≤ length marks
       → (found ≡ choose (take k marks) (offered_by (take k offers)) rules)
       × (first ≡ true → typed ≡ types_in (length (take k marks)) (account (take k marks) (offered_by (take k offers)) rules))
-      × (noted ≡ noted_of (account (take k marks) (offered_by (take k offers)) rules))
+      × (first ≡ true → noted ≡ noted_of (account (take k marks) (offered_by (take k offers)) rules))
       → rules ≡ (institute_at (opened_round file change row) j).steps
       → length found ≡ k → length typed ≡ k
       → ChosenListed (opened_round file change row) j (offer_to (suc j) asked wanted) first who (found ++ found_rest) (typed ++ typed_rest) places noted k

@@ -38,36 +38,36 @@ module _ (X : ℕ → Bool) where
   pub gathers_front : (n : ℕ) (f : ℕ → ℕ) (l : List ℕ) (k : ℕ) → k ≡ count_of n X → Gathers X n f l → Gathers X n f (take k l)
   gathers_front n f l k e g p m x = get_or-take k l (count_of p X) 0 (omega (arith, number_below X p n m x)) ∙ g p m x
 
-module _ (r : Round) (j : ℕ) (offer : ℕ → ℕ) where
+module _ (r : Round) (j : ℕ) (offer : ℕ → ℕ) (placed : Bool) where
   -- where the listing stands at place p
   pub record Gathering (who marks offers places : List ℕ) (k p : ℕ) : Type 0 where
-    pub who_sized : length who ≡ 512
-    pub marks_sized : length marks ≡ 512
-    pub offers_sized : length offers ≡ 512
-    pub places_sized : length places ≡ 512
+    pub who_room : 512 ≤ length who
+    pub marks_room : 512 ≤ length marks
+    pub offers_room : 512 ≤ length offers
+    pub places_room : placed ≡ true → 512 ≤ length places
     pub most : k ≤ p
-    pub so_far : Gathered r j offer p who marks offers places k
+    pub so_far : Gathered r j offer placed p who marks offers places k
 
   module _ {who marks offers places : List ℕ} {k p : ℕ} (s : Gathering who marks offers places k p) where
     -- the candidate at the place has an offer
     one_gathered : {c m o : ℕ} → p < 512 → c ≡ candidate_on r j p → m ≡ marks_of r (candidate_on r j p) → o ≡ offer (candidate_on r j p) → o ≢ 0
-        → Gathering (set who k c) (set marks k m) (set offers k o) (set places k p) (k + 1) (p + 1)
-    one_gathered {c} {m} {o} l ec em eo d =
+        → {places' : List ℕ} → (placed ≡ true → places' ≡ set places k p) → Gathering (set who k c) (set marks k m) (set offers k o) places' (k + 1) (p + 1)
+    one_gathered {c} {m} {o} l ec em eo d {places'} put =
         let X : ℕ → Bool = offers_at r j offer in
         let g = s.so_far in
         let x : X p ≡ true = ap not (ne_eqb (offer (candidate_on r j p)) 0 (λ z. d (eo ∙ z))) in
         record {
-          who_sized = length-set who k c ∙ s.who_sized;
-          marks_sized = length-set marks k m ∙ s.marks_sized;
-          offers_sized = length-set offers k o ∙ s.offers_sized;
-          places_sized = length-set places k p ∙ s.places_sized;
+          who_room = omega (arith, length-set who k c, s.who_room);
+          marks_room = omega (arith, length-set marks k m, s.marks_room);
+          offers_room = omega (arith, length-set offers k o, s.offers_room);
+          places_room = λ t. rw (put t) (omega (arith, length-set places k p, s.places_room t));
           most = omega (arith, s.most);
           so_far = record {
             number = let e : p + 1 ≡ suc p = omega arith in rw e (omega (arith, g.number, bit_true (X p) x));
-            who_at = gathers_in X _ who k p c g.number (omega (arith, s.who_sized, s.most)) x ec g.who_at;
-            marks_at = gathers_in X _ marks k p m g.number (omega (arith, s.marks_sized, s.most)) x em g.marks_at;
-            offers_at_is = gathers_in X _ offers k p o g.number (omega (arith, s.offers_sized, s.most)) x eo g.offers_at_is;
-            places_at = gathers_in X _ places k p p g.number (omega (arith, s.places_sized, s.most)) x refl g.places_at;
+            who_at = gathers_in X _ who k p c g.number (omega (arith, s.who_room, s.most)) x ec g.who_at;
+            marks_at = gathers_in X _ marks k p m g.number (omega (arith, s.marks_room, s.most)) x em g.marks_at;
+            offers_at_is = gathers_in X _ offers k p o g.number (omega (arith, s.offers_room, s.most)) x eo g.offers_at_is;
+            places_at = λ t. rw (put t) (gathers_in X _ places k p p g.number (omega (arith, s.places_room t, s.most)) x refl (g.places_at t));
           };
         }
 
@@ -78,36 +78,37 @@ module _ (r : Round) (j : ℕ) (offer : ℕ → ℕ) where
         let g = s.so_far in
         let x : X p ≡ false = ap not (eq-eqb (offer (candidate_on r j p)) 0 (sym eo ∙ z)) in
         record {
-          who_sized = s.who_sized;
-          marks_sized = s.marks_sized;
-          offers_sized = s.offers_sized;
-          places_sized = s.places_sized;
+          who_room = s.who_room;
+          marks_room = s.marks_room;
+          offers_room = s.offers_room;
+          places_room = s.places_room;
           most = omega (arith, s.most);
           so_far = record {
             number = let e : p + 1 ≡ suc p = omega arith in rw e (omega (arith, g.number, bit_false (X p) x));
             who_at = gathers_out X _ who p x g.who_at;
             marks_at = gathers_out X _ marks p x g.marks_at;
             offers_at_is = gathers_out X _ offers p x g.offers_at_is;
-            places_at = gathers_out X _ places p x g.places_at;
+            places_at = λ t. gathers_out X _ places p x (g.places_at t);
           };
         }
 
 -- at a place of the merit list of an institute, with the number there and the candidate's offer as the code has read them
-module _ (r : Round) (j : ℕ) (asked wanted : List ℕ) {who marks offers places : List ℕ} {k p : ℕ}
-    (s : Gathering r j (offer_to (suc j) asked wanted) who marks offers places k p) where
+module _ (r : Round) (j : ℕ) (asked wanted : List ℕ) (placed : Bool) {who marks offers places : List ℕ} {k p : ℕ}
+    (s : Gathering r j (offer_to (suc j) asked wanted) placed who marks offers places k p) where
   module _ {number offer : ℕ} (reads : number ≡ merit_at (institute_at r j) p) (told : offer ≡ offer_to (j + 1) asked wanted (number - 1)) where
     offer_read : offer ≡ offer_to (suc j) asked wanted (candidate_on r j p)
     offer_read = told ∙ rw (add-one j, reads)
 
     pub one_listed : length (institute_at r j).merit ≤ 512 → p < length (institute_at r j).merit → {m : ℕ} → m ≡ (candidate_at r (number - 1)).marks → offer ≢ 0
-        → Gathering r j (offer_to (suc j) asked wanted) (set who k (number - 1)) (set marks k m) (set offers k offer) (set places k p) (k + 1) (p + 1)
+        → {places' : List ℕ} → (placed ≡ true → places' ≡ set places k p)
+        → Gathering r j (offer_to (suc j) asked wanted) placed (set who k (number - 1)) (set marks k m) (set offers k offer) places' (k + 1) (p + 1)
     unfolding marks_of
     one_listed few inside em =
-        one_gathered r j _ s (omega arith) (ap (λ x. x - 1) reads)
+        one_gathered r j _ placed s (omega arith) (ap (λ x. x - 1) reads)
         (em ∙ ap (λ n. (candidate_at r (n - 1)).marks) reads) offer_read
 
-    pub one_left : offer ≡ 0 → Gathering r j (offer_to (suc j) asked wanted) who marks offers places k (p + 1)
-    one_left = one_passed r j _ s offer_read
+    pub one_left : offer ≡ 0 → Gathering r j (offer_to (suc j) asked wanted) placed who marks offers places k (p + 1)
+    one_left = one_passed r j _ placed s offer_read
 
-  pub all_listed : (n : ℕ) → p ≡ n → Gathered r j (offer_to (suc j) asked wanted) n who marks offers places k
+  pub all_listed : (n : ℕ) → p ≡ n → Gathered r j (offer_to (suc j) asked wanted) placed n who marks offers places k
   all_listed n e = rw e at s.so_far

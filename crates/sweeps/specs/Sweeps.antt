@@ -80,20 +80,21 @@ module _ (r : Round) (j : ℕ) where
   abbrev pub offers_at : (ℕ → ℕ) → ℕ → Bool
   offers_at offer p = not (eqb (offer (candidate_on r j p)) 0)
 
-  -- the k offers at the first n places of institute j's merit list, in its order: who makes each, the marks, the categories and the place
-  pub record Gathered (offer : ℕ → ℕ) (n : ℕ) (who marks offers places : List ℕ) (k : ℕ) : Type 0 where
+  -- the k offers at the first n places of institute j's merit list, in its order: who makes each, the marks and the categories, and, where it is asked for,
+  -- the place
+  pub record Gathered (offer : ℕ → ℕ) (placed : Bool) (n : ℕ) (who marks offers places : List ℕ) (k : ℕ) : Type 0 where
     pub number : k ≡ count_of n (offers_at offer)
     pub who_at : Gathers (offers_at offer) n (candidate_on r j) who
     pub marks_at : Gathers (offers_at offer) n (λ p. marks_of r (candidate_on r j p)) marks
     pub offers_at_is : Gathers (offers_at offer) n (λ p. offer (candidate_on r j p)) offers
-    pub places_at : Gathers (offers_at offer) n (λ p. p) places
+    pub places_at : placed ≡ true → Gathers (offers_at offer) n (λ p. p) places
 
   -- candidate c stands on institute j's merit list and has an offer
   unfoldable pub takes_part : (ℕ → ℕ) → ℕ → Bool
   takes_part offer c = ltb (place_on r j c) (length (institute_at r j).merit) && not (eqb (offer c) 0)
 
   -- the first k of a list are those who take part, each once; further lists have for each the step that institute j gives, and, where
-  -- it is asked for, the type that it uses; and the numbers are those of the account, with the places of its closing places put in
+  -- it is asked for, the type that it uses; and the numbers are then those of the account, with the places of its closing places put in
   pub record ChosenListed (offer : ℕ → ℕ) (first : Bool) (who chosen used places : List ℕ) (noted : List Numbers) (k : ℕ) : Type 0 where
     pub few : k ≤ 512
     pub apart : Apart who (candidate_count r) k
@@ -101,8 +102,8 @@ module _ (r : Round) (j : ℕ) where
     pub each : (c : ℕ) → takes_part offer c ≡ true → (q : ℕ) × (q < k) × (get_or who q 0 ≡ c)
     pub chosen_at : (q : ℕ) → q < k → get_or chosen q 0 ≡ step_for r j (offers_by offer) (get_or who q 0)
     pub typed_at_is : first ≡ true → (q : ℕ) → q < k → get_or used q 0 ≡ type_for r j (offers_by offer) (get_or who q 0)
-    pub noted_few : ClosingsFew k noted
-    pub noted_as : (table : List Numbers) → Placed places noted table → table ≡ noted_of (account_on r j (offers_by offer))
+    pub noted_few : first ≡ true → ClosingsFew k noted
+    pub noted_as : first ≡ true → (table : List Numbers) → Placed places noted table → table ≡ noted_of (account_on r j (offers_by offer))
 
   -- a table has these values for those who take part, and for everybody else what stood there
   pub record PutFor (offer value : ℕ → ℕ) (before after : List ℕ) : Type 0 where

@@ -4,7 +4,7 @@ ghost use Rattle.std.specs.Prelude.{◌≡◌, ◌<◌, length};
 ghost use Rattle.reader.specs.AtHand.{round_at};
 ghost use Rattle.sweeps.specs.Accounts.{AccountedAnew};
 
-use crate::gather::{Listing, Offers};
+use crate::gather::Offers;
 use crate::scatter::scatter;
 use choice::account::place_closings;
 use choice::step::Numbers;
@@ -17,12 +17,22 @@ impl Offers<'_> {
         ensures { AccountedAnew (round_at self.now.o) j self.now.asked.now self.now.wanted.now
             types.old types.new result }
     {
-        let mut listing = Listing::NONE;
+        let mut who = [0; 512];
         let mut chosen = [0; 512];
         let mut used = [0; 512];
-        let mut noted = self.choose_listed(j, true, &mut listing, &mut chosen, &mut used);
-        place_closings(&listing.places, &mut noted);
-        scatter(&listing.who[..listing.count], &used, types);
+        let mut places = [0; 512];
+        let mut noted = [Numbers::NONE; 12];
+        let count = self.choose_listed(
+            j,
+            true,
+            &mut who,
+            &mut chosen,
+            &mut used,
+            &mut places,
+            &mut noted,
+        );
+        place_closings(&places, &mut noted);
+        scatter(&who[..count], &used, types);
         noted
     }
 }

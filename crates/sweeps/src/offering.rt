@@ -9,7 +9,7 @@ use round::entry::Entry;
 
 // Whether candidate i, from 0, has no step and an untried entry.
 #[tactic(auto, unfolding(crate::specs::Sweeps::may_try))]
-fn may_try(o: &Opened<'_>, tried: &[u8], steps: &[u8], i: usize) -> bool
+fn may_try(o: &Opened<'_, '_>, tried: &[u8], steps: &[u8], i: usize) -> bool
     requires i_lt_candidates { i < o.now.head.candidates }
     requires i_in_bounds { (i < length tried.now) × (i < length steps.now) }
     ensures { result ≡ may_try (round_at o.now) tried.now steps.now i }
@@ -19,7 +19,7 @@ fn may_try(o: &Opened<'_>, tried: &[u8], steps: &[u8], i: usize) -> bool
 
 // Candidate i, from 0, offers the best untried entry.
 fn offer_next(
-    o: &Opened<'_>,
+    o: &Opened<'_, '_>,
     i: usize,
     tried: &mut [u8],
     asked: &mut [u16],
@@ -48,7 +48,7 @@ fn offer_next(
 // tables.
 // The tables are parameters by themselves: a struct of them would be made for the one call of each of these functions.
 pub fn offer_all(
-    o: &Opened<'_>,
+    o: &Opened<'_, '_>,
     steps: &[u8],
     tried: &mut [u8],
     asked: &mut [u16],

@@ -16,7 +16,7 @@ use reader::opened::Opened;
 // Sweeps from the state in which nothing is tried and nobody held, until nobody offers, which no number of turns tells beforehand; returns how many offers
 // were made. Tables side by side, as `Offers` takes them.
 fn sweep_all(
-    o: &Opened<'_>,
+    o: &Opened<'_, '_>,
     tried: &mut [u8],
     asked: &mut [u16],
     wanted: &mut [u8],
@@ -63,7 +63,7 @@ fn drop_holders(steps: &[u8], holders: &mut [u16])
 
 // The offers of the process of an accepted file, from tables of zeros: returns their number, at most that of the entries, and leaves the holder
 // and the step of each candidate, 0 and 0 for none as `HeldIn` has it.
-pub fn run_offers(o: &Opened<'_>, holders: &mut [u16], steps: &mut [u8]) -> usize
+pub fn run_offers(o: &Opened<'_, '_>, holders: &mut [u16], steps: &mut [u8]) -> usize
     requires holders_value { (holders.old ≡ replicate o.now.head.candidates 0) × (steps.old ≡ replicate o.now.head.candidates 0) }
     ensures { (result ≡ offers_made (round_at o.now))
         × HeldIn (seats (round_at o.now)) holders.new steps.new }

@@ -16,7 +16,7 @@ fn show(rt: &impl Print, file: &[u8]) -> io::Result<()> {
 }
 
 fn main(rt: HostRuntime) -> io::Result<()> {
-    let longest_read = [0; 65536];
+    // The longest input that is read is all but the last byte.
     let too_long = [0; 65537];
     let inputs: [&[u8]; 21] = [
         rounds::FILE_A,
@@ -36,7 +36,7 @@ fn main(rt: HostRuntime) -> io::Result<()> {
         rounds::TYPE_WITHOUT_POSITIONS,
         rounds::TAKEN_AS_OPEN_NOT_OBC,
         rounds::A_WIDE,
-        &longest_read,
+        &too_long[..65536],
         &too_long,
         rounds::STEPS_A,
         rounds::STEPS_CHAIN,

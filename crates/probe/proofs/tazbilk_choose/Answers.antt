@@ -4,5 +4,5 @@ use Rattle.std.proofs.Common.{rules}
 use Rattle.probe.proofs.Fitting.{lawful}
 use Rattle.probe.proofs.tazbilk_choose.Goals as goal
 
-pub rules_of-rules-requires : goal.rules_of-rules-requires
-rules_of-rules-requires c = lawful _ _ _ c.head_with-head.ensures c.body_fits.ensures (search rules)
+pub rules_of-count-requires-clause-lawful_steps : goal.rules_of-count-requires-clause-lawful_steps
+rules_of-count-requires-clause-lawful_steps c = lawful _ _ _ c.head_with-head.ensures c.body_fits.ensures (search rules)

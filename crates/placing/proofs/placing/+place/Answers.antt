@@ -6,7 +6,7 @@ use lib.ListN.{length, length-set}
 use native.Mathlib.Omega.{arith}
 use Rattle.placing.specs.Left.{Left}
 use Rattle.placing.proofs.PositionsLeft.{some_left, left_some, vacating}
-use Rattle.placing.proofs.Visits.{SearchEnded, skip, done, fail, clear, fewer, at_visited, cleared, finish, settled}
+use Rattle.placing.proofs.Visits.{SearchEnded, skip, done, pass, fail, clear, fewer, at_visited, cleared, finish, settled}
 use Rattle.placing.proofs.placing.+place.Goals as goal
 use Rattle.placing.proofs.placing.+place.Goals.{Left-loop-t}
 use Rattle.placing.proofs.placing.+place.Goals.{then-loop-t-test+then-to_try+then-left-t-gt0, then-loop-t-test+then-to_try+else-left-t-gt0+in-Some+then-place, else-loop-t-test}
@@ -39,7 +39,7 @@ loop-h-preserved t c =
       in_range = omega (arith, next.within, a.in_range);
       same = s.same ∙ a.same;
       positions = rw (s.same ∙ a.same) at c.place.ensures.positions;
-      asked = fail _ _ _ a.asked a.same c.requires.few next.passed s;
+      asked = fail _ _ _ (pass _ _ _ a.asked a.same c.requires.few next.passed) (omega arith) a.same s;
     }
 
 pub loop-t-preserved : goal.loop-t-preserved

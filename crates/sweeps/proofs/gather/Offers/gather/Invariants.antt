@@ -8,5 +8,5 @@ abbrev pub invariant-loop-p : goal.invariant-loop-p
 invariant-loop-p l = record {
   inside : l.j < 1000;
   few : l.p-end ≤ 512;
-  so_far : Gathering (round_at l.self.o) l.j (offer_to (suc l.j) l.self.asked.now l.self.wanted.now) l.listing.who l.listing.marks l.listing.sets l.listing.places l.count l.p;
+  so_far : Gathering (round_at l.self.o) l.j (offer_to (suc l.j) l.self.asked.now l.self.wanted.now) l.placed l.who l.marks l.sets l.places l.count l.p;
 }
