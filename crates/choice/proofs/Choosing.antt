@@ -97,8 +97,8 @@ abbrev type_after : List StepAccount → ℕ → ℕ → ℕ
 type_after steps p u = cond (used_in steps p) (type_in steps p) u
 
 -- after k steps the rest of the rules leads to what all of them lead to from nothing done, and uses the types that all of them do but for those
--- used so far; their account is the rest of the account of all, and the steps before are noted
-pub record Stepping (marks offers : List ℕ) (rules : List Rule) (types : ℕ) (first : Bool) (k : ℕ) (steps used handed : List ℕ) (noted : List Numbers) : Type 0 where
+-- used so far; their account is the rest of the account of all, and the steps before are noted where numbers are asked for
+pub record Stepping (marks offers : List ℕ) (rules : List Rule) (types : ℕ) (first told : Bool) (k : ℕ) (steps used handed : List ℕ) (noted : List Numbers) : Type 0 where
   pub places : Places marks offers steps used
   pub handing : Handing k handed
   pub rest : advance_all marks (offered_by offers) (suc k) (rules_in types (drop k rules)) (done_by steps handed)
@@ -108,7 +108,7 @@ pub record Stepping (marks offers : List ℕ) (rules : List Rule) (types : ℕ) 
       ≡ type_in (account marks (offered_by offers) (rules_in types rules)) p
   pub rest_account : (i : ℕ) → account_of (account marks (offered_by offers) (rules_in types rules)) (suc (k + i))
       ≡ account_of (account_from marks (offered_by offers) (suc k) (rules_in types (drop k rules)) (done_by steps handed)) (suc i)
-  pub noted_so_far : NotedTo (account marks (offered_by offers) (rules_in types rules)) k noted
+  pub noted_so_far : told ≡ true → NotedTo (account marks (offered_by offers) (rules_in types rules)) k noted
 
 same_places : {marks offers steps steps' used used' : List ℕ} → Places marks offers steps used → length steps' ≡ length steps → length used' ≡ length used → Places marks offers steps' used'
 same_places p len long = record { few = p.few; offers_each = p.offers_each; steps_each = len ∙ p.steps_each; used_each = long ∙ p.used_each }
@@ -131,11 +131,11 @@ rest_more : (types k : ℕ) (rules : List Rule) → k < length rules
     → rules_in types (drop k rules) ≡ rule_of types (get_or rules k no_rule) ∷ rules_in types (drop (suc k) rules)
 rest_more types k rules l = ap (rules_in types) (drop-cons rules k no_rule l)
 
-module _ {marks offers : List ℕ} {rules : List Rule} {types : ℕ} {first : Bool} where
-  pub set_out : {steps₀ used₀ steps used : List ℕ} → Places marks offers steps₀ used₀ → steps ≡ replicate (length steps₀) 0 → used ≡ replicate (length used₀) 0
-      → Stepping marks offers rules types first 0 steps used (replicate 13 0) (replicate 12 none)
+module _ {marks offers : List ℕ} {rules : List Rule} {types : ℕ} {first told : Bool} where
+  pub set_out : {steps₀ used₀ steps used : List ℕ} {noted : List Numbers} → Places marks offers steps₀ used₀ → steps ≡ replicate (length steps₀) 0 → used ≡ replicate (length used₀) 0
+      → (told ≡ true → noted ≡ replicate 12 none) → Stepping marks offers rules types first told 0 steps used (replicate 13 0) noted
   unfolding nothing_done account
-  set_out {steps₀} {used₀} {steps} {used} places clear wipe =
+  set_out {steps₀} {used₀} {steps} {used} places clear wipe fresh =
       let whole = account marks (offered_by offers) (rules_in types rules) in
       let start : done_by steps (replicate 13 0) ≡ nothing_done marks (offered_by offers) =
       done_same (nothing_done marks (offered_by offers)) steps (replicate 13 0) (rw (clear, places.steps_each)) (λ j. get_or_zeros 13 j) in
@@ -145,17 +145,17 @@ module _ {marks offers : List ℕ} {rules : List Rule} {types : ℕ} {first : Bo
         rest = rw start;
         rest_typed = λ f p l. rw (start, wipe, get_or_zeros (length used₀) p) (typed_none (used_in whole p) (type_in whole p) (type_none whole p));
         rest_account = λ i. rw (start, zero-add);
-        noted_so_far = none_noted whole;
+        noted_so_far = λ t. rw (fresh t) (none_noted whole);
       }
 
-  pub go_on : {k : ℕ} {steps used handed steps' used' handed' : List ℕ} {noted : List Numbers} {numbers : Numbers} → k < length rules → k < 12
-      → Stepping marks offers rules types first k steps used handed noted → length steps' ≡ length steps → length used' ≡ length used
+  pub go_on : {k : ℕ} {steps used handed steps' used' handed' : List ℕ} {noted noted' : List Numbers} {numbers : Numbers} → k < length rules → k < 12
+      → Stepping marks offers rules types first told k steps used handed noted → length steps' ≡ length steps → length used' ≡ length used
       → (done_by steps' handed' ≡ advance marks (offered_by offers) (suc k) (rule_of types (get_or rules k no_rule)) (done_by steps handed)) × Handing (suc k) handed'
       × (first ≡ true → used' ≡ types_with (length marks) (account_at marks (offered_by offers) (suc k) (rule_of types (get_or rules k no_rule)) (done_by steps handed)) used)
       × (numbers ≡ numbers_of (account_at marks (offered_by offers) (suc k) (rule_of types (get_or rules k no_rule)) (done_by steps handed)))
-      → Stepping marks offers rules types first (k + 1) steps' used' handed' (set noted k numbers)
+      → (told ≡ true → noted' ≡ set noted k numbers) → Stepping marks offers rules types first told (k + 1) steps' used' handed' noted'
   unfolding advance_all account_from used_in type_in
-  go_on {k} {steps} {used} {handed} {steps'} {used'} {handed'} {noted} l few g len long s =
+  go_on {k} {steps} {used} {handed} {steps'} {used'} {handed'} {noted} l few g len long s put =
       let rule = rule_of types (get_or rules k no_rule) in
       let more : rules_in types (drop k rules) ≡ rule ∷ rules_in types (drop (suc k) rules) = rest_more types k rules l in
       let whole = account marks (offered_by offers) (rules_in types rules) in
@@ -176,13 +176,13 @@ module _ {marks offers : List ℕ} {rules : List Rule} {types : ℕ} {first : Bo
             let at : suc k + i ≡ k + suc i = omega arith in
             let second : suc (suc i) - 1 ≡ suc (suc i - 1) = omega arith in
             rw (at, s.0) (rw (more, second) at (g.rest_account (suc i)));
-        noted_so_far = one_noted whole few g.noted_so_far (s.3 ∙ sym (ap numbers_of here));
+        noted_so_far = λ t. rw (put t) (one_noted whole few (g.noted_so_far t) (s.3 ∙ sym (ap numbers_of here)));
       }
 
-  pub arrive : {k : ℕ} {steps used handed : List ℕ} {noted : List Numbers} → length rules ≤ k → Stepping marks offers rules types first k steps used handed noted
+  pub arrive : {k : ℕ} {steps used handed : List ℕ} {noted : List Numbers} → length rules ≤ k → Stepping marks offers rules types first told k steps used handed noted
       → (steps ≡ choose marks (offered_by offers) (rules_in types rules))
       × (first ≡ true → used ≡ types_in (length marks) (account marks (offered_by offers) (rules_in types rules)))
-      × (noted ≡ noted_of (account marks (offered_by offers) (rules_in types rules)))
+      × (told ≡ true → noted ≡ noted_of (account marks (offered_by offers) (rules_in types rules)))
   unfolding choose advance_all account_from used_in types_in
   arrive {k} l g =
       let over : drop k rules ≡ [] = drop_all k rules l in (
@@ -192,5 +192,5 @@ module _ {marks offers : List ℕ} {rules : List Rule} {types : ℕ} {first : Bo
             (λ p l.
             let inside : p < length marks = omega (arith, g.places.used_each) in
             (rw over at (g.rest_typed f p inside)) ∙ sym (tabulate_at (length marks) _ 0 p inside)),
-        all_noted (account marks (offered_by offers) (rules_in types rules)) g.noted_so_far (λ i. rw over at (g.rest_account i)),
+        λ t. all_noted (account marks (offered_by offers) (rules_in types rules)) (g.noted_so_far t) (λ i. rw over at (g.rest_account i)),
       )

@@ -21,6 +21,10 @@ numbers_of step = record {
   closing = closing_place step;
 }
 
+-- the numbers of a step that did nothing
+abbrev pub nothing_noted : Numbers
+nothing_noted = record { positions = 0; used = 0; merit = 0; vacant = 0; closing = 0 }
+
 -- the numbers of the first twelve steps of an account; beyond the last step they are 0
 unfoldable pub noted_of : List StepAccount → List Numbers
 noted_of steps = tabulate 12 (λ k. numbers_of (account_of steps (suc k)))

@@ -1,18 +1,19 @@
 // One institute chooses from the offers to it. In the second half of a sweep each institute that got an offer does, from the entries tried last that
 // name it.
-ghost use Rattle.std.specs.Prelude.{◌≡◌, true, suc, ◌≤◌, ◌<◌, length};
+ghost use Rattle.std.specs.Prelude.{◌≡◌, true, suc, ◌≤◌, ◌<◌, length, replicate};
+ghost use Rattle.choice.specs.Noted.{nothing_noted};
 ghost use Rattle.reader.specs.AtHand.{round_at};
 ghost use Rattle.sweeps.specs.Sweeps.{offer_to, ChosenListed, ChosenAnew, ChosenAll};
 
 use crate::gather::Offers;
 use crate::scatter::scatter;
-use choice::choose;
+use choice::choose_into;
 use choice::step::Numbers;
 use reader::rules::rules_of;
 use round::rule::Rule;
 
 impl Offers<'_> {
-    // Institute j, from 0, chooses: lists who takes part, with the step of each and, with `first`, a flag as in `choose`, the type used, the place and
+    // Institute j, from 0, chooses: lists who takes part, with the step of each and, with `first`, a flag as in `choose_into`, the type used, the place and
     // the numbers of its account; returns how many take part. The tables are lent, since tables that are returned are copied; inlined, since the compiler
     // then knows that the tables are apart.
     #[inline(always)]
@@ -28,7 +29,7 @@ impl Offers<'_> {
     ) -> usize
         requires j_lt_institutes { j < self.now.o.head.institutes }
         requires in_bounds { (512 ≤ length who.old) × (512 ≤ length chosen.old) × (512 ≤ length used.old) × (first ≡ true → 512 ≤ length places.old) }
-        requires noted_len { first ≡ true → length noted.old ≡ 12 }
+        requires noted_value { first ≡ true → noted.old ≡ replicate 12 nothing_noted }
         ensures { ChosenListed (round_at self.now.o) j (offer_to (suc j) self.now.asked.now self.now.wanted.now)
             first who.new chosen.new used.new places.new noted.new result }
     {
@@ -37,18 +38,17 @@ impl Offers<'_> {
         let mut table = [Rule::NONE; 12];
         let count = self.gather(j, first, who, &mut marks, &mut sets, places);
         let step_count = rules_of(&self.o.steps(j), &mut table);
-        let numbers = choose(
+        choose_into(
             &table[..step_count],
             self.o.head.types,
             &marks[..count],
             &sets[..count],
             first,
+            first,
             &mut chosen[..count],
             &mut used[..count],
+            noted,
         );
-        if first {
-            noted.copy_from_slice(&numbers);
-        }
         count
     }
 
